@@ -1,0 +1,21 @@
+-- The tests that led to a return decide the definition's.
+-- Assumes nothing.
+use Rattle.os2_rules.specs.Tests.{rightsBroken}
+use Rattle.os2_rules.specs.Bits.{bit}
+use Rattle.os2_rules.proofs.Laws.{decided}
+use borrow.Author.Needs.{needs}
+use Rattle.os2_rules.proofs.rights_broken.Statement.{statement}
+use Rattle.os2_rules.proofs.rights_broken.Tie as tie
+
+add-result : tie.Need-add-result
+add-result c = search needs
+
+add-result-2 : tie.Need-add-result-2
+add-result-2 c = search needs
+
+returns : tie.Need-returns
+unfolding rightsBroken bit
+returns c = search decided
+
+pub rights-broken-spec : {M : Type 1} → statement M
+rights-broken-spec = tie.close (tie.spec add-result add-result-2 returns)

@@ -1,0 +1,3 @@
+pub mod Bits
+pub mod Rules
+pub mod Tests
