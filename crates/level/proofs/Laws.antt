@@ -3,17 +3,16 @@
 use Prim.Native.Nat.{ℕ, zero, suc, _<_, _≤_}
 use mathlib.Core.Path.{_≡_, refl, sym, ap, _∙_}
 use mathlib.Core.Bool.{Bool, true, false, cond}
-use mathlib.Core.List.{List, [], _∷_, map}
+use mathlib.Core.List.{[], _∷_, map}
 use native.Mathlib.Omega.{arith}
 use lib.ListN.{getD}
 use lib.Dec.{ltb}
 use borrow.Author.Needs.{needs}
 use borrow.Author.Tests.{lt-ltb, le-ltb, ltb-true, ltb-false}
-use Rattle.level.specs.Levels.{numberOf, levels, levelOf, Said, level, refusal, said}
+use Rattle.level.specs.Levels.{numberOf, levels, levelOf, level, refusal, said}
 use Rattle.level.specs.Sizes.{tableSize}
 use Rattle.level.specs.declared.Level.{Level}
 use Rattle.level.specs.declared.Level.the-variants.{Oldest, One, Two, Three, Four, Newest}
-use Rattle.level.specs.declared.LevelAnswer.{LevelAnswer}
 use Rattle.level.specs.declared.LevelAnswer.the-variants.{Known, Refused}
 
 -- ---- the levels

@@ -1,0 +1,7 @@
+pub mod Laws
+pub mod Accepting
+pub mod Asked
+pub mod Settling
+pub mod Agreeing
+pub mod Trimming
+pub mod Starred

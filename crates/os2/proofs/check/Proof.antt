@@ -1,0 +1,29 @@
+-- Refusal 1 is that of the level; else it is what `judge` says at the level of that number.
+-- Assumes nothing.
+use mathlib.Core.Path.{sym, _∙_}
+use Rattle.os2.proofs.Asked.{checked-known, checked-refused}
+use borrow.Author.Needs.{needs}
+use Rattle.os2.proofs.check.Statement.{statement}
+use Rattle.os2.proofs.check.Tie as tie
+
+new-requires : tie.Need-new-requires
+new-requires c κs = search needs
+
+enum-told : tie.Need-enum-told
+enum-told c = search needs
+
+enum-known-known : tie.Need-enum-known-known
+enum-known-known c = search needs
+
+judge-requires : tie.Need-judge-requires
+judge-requires c κs = search needs
+
+returns : tie.Need-returns
+returns c = checked-refused _ _ (sym (c .before .before .new .ensures) ∙ c .enum-told .given .1)
+
+returns-2 : tie.Need-returns-2
+returns-2 c = c .judge .ensures ∙ checked-known _ _ (sym (c .before .before .before .before .new .ensures) ∙ c .before .before .known .given .1)
+
+pub check-spec : {M : Type 1} → statement M
+check-spec =
+    tie.close (tie.spec new-requires enum-told enum-known-known judge-requires returns returns-2)

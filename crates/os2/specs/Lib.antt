@@ -1,0 +1,9 @@
+pub mod Outcomes
+pub mod Acceptance
+pub mod Questions
+pub mod Asking
+pub mod Replies
+pub mod Reading
+pub mod Settled
+pub mod Demands
+pub mod Examples

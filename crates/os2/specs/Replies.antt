@@ -1,0 +1,99 @@
+-- The enums of the code in document 01's words and numbers, case by case.
+use Prim.Native.Nat.{ℕ}
+use mathlib.Core.Option.{Option, none, some}
+use Rattle.os2_style.specs.Style.{rightsNumber, saidSizes}
+use Rattle.os2.specs.declared.Refusal.{Refusal}
+use Rattle.os2.specs.declared.Refusal.the-variants.{LevelAbove, TooShort, RuleBroken, NoField, NoBit}
+use Rattle.os2.specs.declared.Checked.{Checked}
+use Rattle.os2.specs.declared.Checked.the-variants as Checked·
+use Rattle.os2.specs.declared.Answer.{Answer}
+use Rattle.os2.specs.declared.Answer.the-variants as Answer·
+use Rattle.os2.specs.declared.Reply.{Reply}
+use Rattle.os2.specs.declared.Reply.the-variants as Reply·
+use Rattle.os2.specs.declared.RightsAnswer.{RightsAnswer}
+use Rattle.os2.specs.declared.RightsAnswer.the-variants as RightsAnswer·
+use Rattle.os2.specs.declared.RightsReply.{RightsReply}
+use Rattle.os2.specs.declared.RightsReply.the-variants as RightsReply·
+use Rattle.os2.specs.declared.StyleAnswer.{StyleAnswer}
+use Rattle.os2.specs.declared.StyleAnswer.the-variants as StyleAnswer·
+use Rattle.os2.specs.declared.StyleReply.{StyleReply}
+use Rattle.os2.specs.declared.StyleReply.the-variants as StyleReply·
+use Rattle.os2.specs.declared.OpticalAnswer.{OpticalAnswer}
+use Rattle.os2.specs.declared.OpticalAnswer.the-variants as OpticalAnswer·
+use Rattle.os2.specs.declared.OpticalReply.{OpticalReply}
+use Rattle.os2.specs.declared.OpticalReply.the-variants as OpticalReply·
+use Rattle.os2.specs.declared.AnyReply.{AnyReply}
+use Rattle.os2.specs.declared.AnyReply.the-variants as AnyReply·
+use Rattle.os2.specs.Outcomes.{integer, rights, position, sizes, Said, value, absent, not-known, Outcome, refused, answered, accepted}
+
+-- ---- refusals
+
+abbrev pub refusalNumber : Refusal → ℕ
+refusalNumber LevelAbove = 1
+refusalNumber TooShort = 2
+refusalNumber (RuleBroken k) = 3
+refusalNumber NoField = 6
+refusalNumber NoBit = 7
+
+abbrev pub refusalCarries : Refusal → Option ℕ
+refusalCarries LevelAbove = none
+refusalCarries TooShort = none
+refusalCarries (RuleBroken k) = some k
+refusalCarries NoField = none
+refusalCarries NoBit = none
+
+abbrev pub saidCheck : Checked → Outcome (Unit {0})
+saidCheck Checked·.Accepted = accepted
+saidCheck (Checked·.Refused r) = refused (refusalNumber r) (refusalCarries r)
+
+-- ---- fields and bits
+
+abbrev pub saidAnswer : Answer → Said
+saidAnswer (Answer·.Value x) = value (integer x)
+saidAnswer Answer·.Absent = absent
+saidAnswer Answer·.NotKnown = not-known
+
+abbrev pub saidReply : Reply → Outcome Said
+saidReply (Reply·.Answered a) = answered (saidAnswer a)
+saidReply (Reply·.Refused r) = refused (refusalNumber r) (refusalCarries r)
+
+-- ---- rights: the bit of fsType, 0 for none
+
+abbrev pub saidRightsAnswer : RightsAnswer → Said
+saidRightsAnswer (RightsAnswer·.Value x) = value (rights (rightsNumber x))
+saidRightsAnswer RightsAnswer·.Absent = absent
+saidRightsAnswer RightsAnswer·.NotKnown = not-known
+
+abbrev pub saidRightsReply : RightsReply → Outcome Said
+saidRightsReply (RightsReply·.Answered a) = answered (saidRightsAnswer a)
+saidRightsReply (RightsReply·.Refused r) = refused (refusalNumber r) (refusalCarries r)
+
+-- ---- the style position
+
+abbrev pub saidStyleAnswer : StyleAnswer → Said
+saidStyleAnswer (StyleAnswer·.Value x) = value (position (x .weight) (x .width))
+saidStyleAnswer StyleAnswer·.Absent = absent
+saidStyleAnswer StyleAnswer·.NotKnown = not-known
+
+abbrev pub saidStyleReply : StyleReply → Outcome Said
+saidStyleReply (StyleReply·.Answered a) = answered (saidStyleAnswer a)
+saidStyleReply (StyleReply·.Refused r) = refused (refusalNumber r) (refusalCarries r)
+
+-- ---- optical sizes
+
+abbrev pub saidOpticalAnswer : OpticalAnswer → Said
+saidOpticalAnswer (OpticalAnswer·.Value x) = value (sizes (saidSizes x))
+saidOpticalAnswer OpticalAnswer·.Absent = absent
+saidOpticalAnswer OpticalAnswer·.NotKnown = not-known
+
+abbrev pub saidOpticalReply : OpticalReply → Outcome Said
+saidOpticalReply (OpticalReply·.Answered a) = answered (saidOpticalAnswer a)
+saidOpticalReply (OpticalReply·.Refused r) = refused (refusalNumber r) (refusalCarries r)
+
+-- ---- any question
+
+abbrev pub saidAnyReply : AnyReply → Outcome Said
+saidAnyReply (AnyReply·.Number r) = saidReply r
+saidAnyReply (AnyReply·.Rights r) = saidRightsReply r
+saidAnyReply (AnyReply·.Style r) = saidStyleReply r
+saidAnyReply (AnyReply·.Optical r) = saidOpticalReply r

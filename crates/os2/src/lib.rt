@@ -1,0 +1,402 @@
+// The 'OS/2' reader: which tables a level accepts, and the seven questions on an accepted table.
+// Document 01, "The 'OS/2' fields" and "Questions on an accepted OS/2 table", in its order of refusals.
+// Relies on `os2_fields` for what stands in the fields, `level` for levels and sizes, `os2_rules` for the value rules, and `os2_style`
+// for the last three questions' values.
+ghost use mathlib.Core.Path.{_≡_};
+ghost use Prim.Native.Nat.{_<_, _≤_, min};
+ghost use lib.ListN.{length};
+ghost use lib.IntN.{pos};
+ghost use Rattle.level.specs.Levels.{numberOf};
+ghost use Rattle.level.specs.Sizes.{tableSize};
+ghost use Rattle.os2_rules.specs.Bits.{bit};
+ghost use Rattle.os2_fields.specs.Fields.{raw, version};
+ghost use Rattle.os2.specs.Outcomes.{accepted, integer};
+ghost use Rattle.os2.specs.Acceptance.{judged, checked};
+ghost use Rattle.os2.specs.Asking.{above, ask, given, bySince};
+ghost use Rattle.os2.specs.Questions.{since};
+ghost use Rattle.os2.specs.Reading.{BitAsked};
+ghost use Rattle.os2.specs.Replies.{refusalNumber, saidCheck, saidAnswer, saidReply, saidRightsAnswer, saidRightsReply, saidStyleAnswer, saidStyleReply, saidOpticalAnswer, saidOpticalReply, saidAnyReply};
+use level::Level;
+use level::LevelAnswer;
+use os2_fields::CODE_PAGES;
+use os2_fields::FSSELECTION;
+use os2_fields::FSTYPE;
+use os2_fields::LOWER_SIZE;
+use os2_fields::UNICODE_RANGES;
+use os2_fields::UPPER_SIZE;
+use os2_fields::VERSION;
+use os2_fields::WEIGHT;
+use os2_fields::WIDTH;
+use os2_rules::Verdict;
+use os2_style::EmbeddingRights;
+use os2_style::OpticalSizes;
+use os2_style::StylePosition;
+
+// Why a table or a question is refused.
+pub enum Refusal {
+    // 1: the level is above 5.
+    LevelAbove,
+    // 2: the table is under 2 bytes, or shorter than the size for the smaller of its version and the level.
+    TooShort,
+    // 3: a value rule is broken; carries the first, 1 to 7.
+    RuleBroken(u32),
+    // 6: the field number is above 47.
+    NoField,
+    // 7: the bit number is out of its range.
+    NoBit,
+}
+
+impl Refusal {
+    // Document 01's number.
+    pub fn number(self) -> u32
+        ensures { λ r. ⌜ r ≡ refusalNumber self ⌝ }
+    {
+        match self {
+            Refusal::LevelAbove => 1,
+            Refusal::TooShort => 2,
+            Refusal::RuleBroken(_) => 3,
+            Refusal::NoField => 6,
+            Refusal::NoBit => 7,
+        }
+    }
+}
+
+// What a level says of a table.
+pub enum Checked {
+    Accepted,
+    Refused(Refusal),
+}
+
+// The answer on a field or a bit, one of document 01's three. A bit is 0 or 1.
+pub enum Answer {
+    Value(i64),
+    // The table's version is below that of what is asked for.
+    Absent,
+    // What is asked for came in after the level.
+    NotKnown,
+}
+
+// An answer, or the refusal beside it.
+pub enum Reply {
+    Answered(Answer),
+    Refused(Refusal),
+}
+
+pub enum RightsAnswer {
+    Value(EmbeddingRights),
+    Absent,
+    NotKnown,
+}
+
+pub enum RightsReply {
+    Answered(RightsAnswer),
+    Refused(Refusal),
+}
+
+pub enum StyleAnswer {
+    Value(StylePosition),
+    Absent,
+    NotKnown,
+}
+
+pub enum StyleReply {
+    Answered(StyleAnswer),
+    Refused(Refusal),
+}
+
+pub enum OpticalAnswer {
+    Value(OpticalSizes),
+    Absent,
+    NotKnown,
+}
+
+pub enum OpticalReply {
+    Answered(OpticalAnswer),
+    Refused(Refusal),
+}
+
+// The seven questions.
+pub enum Question {
+    Field(u32),
+    SelectionBit(u32),
+    UnicodeBit(u32),
+    CodePageBit(u32),
+    Rights,
+    StylePosition,
+    OpticalSizes,
+}
+
+// The reply to a question, of its own kind.
+pub enum AnyReply {
+    Number(Reply),
+    Rights(RightsReply),
+    Style(StyleReply),
+    Optical(OpticalReply),
+}
+
+// Whether a level accepts a table.
+pub fn check(table: &[u8], level: u32) -> Checked
+    ensures { λ r. ⌜ saidCheck r ≡ checked level (now (table .entry)) ⌝ }
+{
+    match Level::new(level) {
+        LevelAnswer::Refused => Checked::Refused(Refusal::LevelAbove),
+        LevelAnswer::Known(known) => judge(table, known),
+    }
+}
+
+// Any of the seven questions.
+pub fn ask(table: &[u8], level: u32, question: Question) -> AnyReply
+    ensures { λ r. ⌜ saidAnyReply r ≡ ask level (now (table .entry)) question ⌝ }
+{
+    match question {
+        Question::Field(number) => AnyReply::Number(field(table, level, number)),
+        Question::SelectionBit(number) => AnyReply::Number(selection_bit(table, level, number)),
+        Question::UnicodeBit(number) => AnyReply::Number(unicode_bit(table, level, number)),
+        Question::CodePageBit(number) => AnyReply::Number(code_page_bit(table, level, number)),
+        Question::Rights => AnyReply::Rights(rights(table, level)),
+        Question::StylePosition => AnyReply::Style(style_position(table, level)),
+        Question::OpticalSizes => AnyReply::Optical(optical_sizes(table, level)),
+    }
+}
+
+// The value of a field, by its number in the catalogue.
+pub fn field(table: &[u8], level: u32, number: u32) -> Reply
+    ensures { λ r. ⌜ saidReply r ≡ ask level (now (table .entry)) (Question.Field number) ⌝ }
+{
+    let LevelAnswer::Known(known) = Level::new(level) else {
+        return Reply::Refused(Refusal::LevelAbove);
+    };
+    if 47 < number {
+        return Reply::Refused(Refusal::NoField);
+    }
+    match judge(table, known) {
+        Checked::Refused(why) => Reply::Refused(why),
+        Checked::Accepted => Reply::Answered(field_answer(table, level, number as usize)),
+    }
+}
+
+// Bit 0 to 9 of fsSelection.
+pub fn selection_bit(table: &[u8], level: u32, number: u32) -> Reply
+    ensures { λ r. ⌜ saidReply r ≡ ask level (now (table .entry)) (Question.SelectionBit number) ⌝ }
+{
+    let LevelAnswer::Known(known) = Level::new(level) else {
+        return Reply::Refused(Refusal::LevelAbove);
+    };
+    if 9 < number {
+        return Reply::Refused(Refusal::NoBit);
+    }
+    match judge(table, known) {
+        Checked::Refused(why) => Reply::Refused(why),
+        Checked::Accepted => Reply::Answered(bit_answer(
+            table,
+            level,
+            selection_since(number),
+            FSSELECTION,
+            number,
+        )),
+    }
+}
+
+// Unicode bit 0 to 127: bit n mod 32 of range n div 32.
+pub fn unicode_bit(table: &[u8], level: u32, number: u32) -> Reply
+    ensures { λ r. ⌜ saidReply r ≡ ask level (now (table .entry)) (Question.UnicodeBit number) ⌝ }
+{
+    let LevelAnswer::Known(known) = Level::new(level) else {
+        return Reply::Refused(Refusal::LevelAbove);
+    };
+    if 127 < number {
+        return Reply::Refused(Refusal::NoBit);
+    }
+    match judge(table, known) {
+        Checked::Refused(why) => Reply::Refused(why),
+        Checked::Accepted => Reply::Answered(bit_answer(
+            table,
+            level,
+            0,
+            UNICODE_RANGES + (number / 32) as usize,
+            number % 32,
+        )),
+    }
+}
+
+// Code page bit 0 to 63, likewise.
+pub fn code_page_bit(table: &[u8], level: u32, number: u32) -> Reply
+    ensures { λ r. ⌜ saidReply r ≡ ask level (now (table .entry)) (Question.CodePageBit number) ⌝ }
+{
+    let LevelAnswer::Known(known) = Level::new(level) else {
+        return Reply::Refused(Refusal::LevelAbove);
+    };
+    if 63 < number {
+        return Reply::Refused(Refusal::NoBit);
+    }
+    match judge(table, known) {
+        Checked::Refused(why) => Reply::Refused(why),
+        Checked::Accepted => Reply::Answered(bit_answer(
+            table,
+            level,
+            1,
+            CODE_PAGES + (number / 32) as usize,
+            number % 32,
+        )),
+    }
+}
+
+// Rights: what fsType allows.
+pub fn rights(table: &[u8], level: u32) -> RightsReply
+    ensures { λ r. ⌜ saidRightsReply r ≡ ask level (now (table .entry)) Question.Rights ⌝ }
+{
+    match check(table, level) {
+        Checked::Refused(why) => RightsReply::Refused(why),
+        Checked::Accepted => RightsReply::Answered(rights_answer(table, level)),
+    }
+}
+
+// The style position: weight and width percent.
+pub fn style_position(table: &[u8], level: u32) -> StyleReply
+    ensures { λ r. ⌜ saidStyleReply r ≡ ask level (now (table .entry)) Question.StylePosition ⌝ }
+{
+    match check(table, level) {
+        Checked::Refused(why) => StyleReply::Refused(why),
+        Checked::Accepted => StyleReply::Answered(style_answer(table, level)),
+    }
+}
+
+// Optical sizes, in points.
+pub fn optical_sizes(table: &[u8], level: u32) -> OpticalReply
+    ensures { λ r. ⌜ saidOpticalReply r ≡ ask level (now (table .entry)) Question.OpticalSizes ⌝ }
+{
+    match check(table, level) {
+        Checked::Refused(why) => OpticalReply::Refused(why),
+        Checked::Accepted => OpticalReply::Answered(optical_answer(table, level)),
+    }
+}
+
+// Refusals 2 and 3.
+fn judge(table: &[u8], known: Level) -> Checked
+    ensures { λ r. ⌜ saidCheck r ≡ judged (numberOf known) (now (table .entry)) ⌝ }
+{
+    if table.len() < 2 {
+        return Checked::Refused(Refusal::TooShort);
+    }
+    let version = version_of(table);
+    if table.len() < size_read(version, known) {
+        return Checked::Refused(Refusal::TooShort);
+    }
+    if known.number() < version {
+        return Checked::Accepted;
+    }
+    match os2_rules::judge(os2_fields::values(table)) {
+        Verdict::Kept => Checked::Accepted,
+        Verdict::Broken(rule) => Checked::Refused(Refusal::RuleBroken(rule)),
+    }
+}
+
+// The size for the smaller of a version and a level.
+fn size_read(version: u32, known: Level) -> usize
+    ensures { λ r. ⌜ r ≡ tableSize (min version (numberOf known)) ⌝ }
+{
+    if version < known.number() {
+        level::version_size(version)
+    } else {
+        known.table_size()
+    }
+}
+
+// The version stored in a table.
+fn version_of(table: &[u8]) -> u32
+    requires { ⌜ 2 ≤ length (now table) ⌝ }
+    ensures { λ r. ⌜ r ≡ version (now (table .entry)) ⌝ }
+{
+    os2_fields::word(table, VERSION) as u32
+}
+
+// A field of an accepted table.
+fn field_answer(table: &[u8], level: u32, k: usize) -> Answer
+    requires { ⌜ (k < 48) × (judged level (now table) ≡ accepted) ⌝ }
+    ensures { λ r. ⌜ saidAnswer r ≡ given level (now (table .entry)) (Question.Field k) ⌝ }
+{
+    let f = os2_fields::entry(k);
+    let since = f.since as u32;
+    if above(since, level) {
+        return Answer::NotKnown;
+    }
+    if above(since, version_of(table)) {
+        return Answer::Absent;
+    }
+    Answer::Value(os2_fields::value(table, f))
+}
+
+// A bit of a field of an accepted table, of what came in with version `since`.
+fn bit_answer(table: &[u8], level: u32, since: u32, k: usize, n: u32) -> Answer
+    requires { ⌜ BitAsked (now table) level since k n ⌝ }
+    ensures { λ r. ⌜ saidAnswer r ≡ bySince since level (version (now (table .entry))) (integer (pos (bit n (raw (now (table .entry)) k)))) ⌝ }
+{
+    if above(since, level) {
+        return Answer::NotKnown;
+    }
+    if above(since, version_of(table)) {
+        return Answer::Absent;
+    }
+    let number = os2_fields::number(table, os2_fields::entry(k));
+    Answer::Value(os2_fields::plain(os2_fields::bit_of(number, n)))
+}
+
+// Whether version p is above a level or another version.
+fn above(p: u32, level: u32) -> bool
+    ensures { λ r. ⌜ r ≡ above p level ⌝ }
+{
+    level < p
+}
+
+// The version that a bit of fsSelection came in with.
+fn selection_since(n: u32) -> u32
+    ensures { λ r. ⌜ r ≡ since (Question.SelectionBit n) ⌝ }
+{
+    if n < 7 { 0 } else { 4 }
+}
+
+// Rights of an accepted table.
+fn rights_answer(table: &[u8], level: u32) -> RightsAnswer
+    requires { ⌜ judged level (now table) ≡ accepted ⌝ }
+    ensures { λ r. ⌜ saidRightsAnswer r ≡ given level (now (table .entry)) Question.Rights ⌝ }
+{
+    if above(version_of(table), level) {
+        return RightsAnswer::NotKnown;
+    }
+    RightsAnswer::Value(os2_style::rights_of(os2_fields::word(table, FSTYPE)))
+}
+
+// The style position of an accepted table.
+fn style_answer(table: &[u8], level: u32) -> StyleAnswer
+    requires { ⌜ judged level (now table) ≡ accepted ⌝ }
+    ensures { λ r. ⌜ saidStyleAnswer r ≡ given level (now (table .entry)) Question.StylePosition ⌝ }
+{
+    if above(version_of(table), level) {
+        return StyleAnswer::NotKnown;
+    }
+    StyleAnswer::Value(os2_style::position_of(
+        os2_fields::word(table, WEIGHT),
+        os2_fields::word(table, WIDTH),
+    ))
+}
+
+// Optical sizes of an accepted table.
+fn optical_answer(table: &[u8], level: u32) -> OpticalAnswer
+    requires { ⌜ judged level (now table) ≡ accepted ⌝ }
+    ensures { λ r. ⌜ saidOpticalAnswer r ≡ given level (now (table .entry)) Question.OpticalSizes ⌝ }
+{
+    let version = version_of(table);
+    if above(version, level) {
+        return OpticalAnswer::NotKnown;
+    }
+    if above(5, level) {
+        return OpticalAnswer::NotKnown;
+    }
+    if above(5, version) {
+        return OpticalAnswer::Absent;
+    }
+    OpticalAnswer::Value(os2_style::sizes_of(
+        os2_fields::word(table, LOWER_SIZE),
+        os2_fields::word(table, UPPER_SIZE),
+    ))
+}

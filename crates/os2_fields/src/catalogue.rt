@@ -1,0 +1,331 @@
+// The catalogue of the 48 fields: the one place in the code that knows an offset.
+// Document 01, "The 'OS/2' fields", the table of fields.
+ghost use mathlib.Core.Path.{_≡_};
+ghost use Prim.Native.Nat.{_<_};
+ghost use Rattle.os2_fields.specs.Catalogue.{fieldOf};
+
+// A field: where it stands, its width in bytes, whether it is signed, and the version that it came in with.
+pub struct Field {
+    pub offset: u8,
+    pub width: u8,
+    pub signed: bool,
+    pub since: u8,
+}
+
+// Fields that the reader uses by name.
+pub const VERSION: usize = 0;
+
+pub const WEIGHT: usize = 2;
+
+pub const WIDTH: usize = 3;
+
+pub const FSTYPE: usize = 4;
+
+pub const UNICODE_RANGES: usize = 26;
+
+pub const FSSELECTION: usize = 31;
+
+pub const CODE_PAGES: usize = 39;
+
+pub const LOWER_SIZE: usize = 46;
+
+pub const UPPER_SIZE: usize = 47;
+
+// Field number k.
+pub fn entry(k: usize) -> Field
+    requires { ⌜ k < 48 ⌝ }
+    ensures { λ r. ⌜ r ≡ fieldOf k ⌝ }
+{
+    FIELDS[k]
+}
+
+const FIELDS: [Field; 48] = [
+    Field {
+        offset: 0,
+        width: 2,
+        signed: false,
+        since: 0,
+    },
+    Field {
+        offset: 2,
+        width: 2,
+        signed: true,
+        since: 0,
+    },
+    Field {
+        offset: 4,
+        width: 2,
+        signed: false,
+        since: 0,
+    },
+    Field {
+        offset: 6,
+        width: 2,
+        signed: false,
+        since: 0,
+    },
+    Field {
+        offset: 8,
+        width: 2,
+        signed: false,
+        since: 0,
+    },
+    Field {
+        offset: 10,
+        width: 2,
+        signed: true,
+        since: 0,
+    },
+    Field {
+        offset: 12,
+        width: 2,
+        signed: true,
+        since: 0,
+    },
+    Field {
+        offset: 14,
+        width: 2,
+        signed: true,
+        since: 0,
+    },
+    Field {
+        offset: 16,
+        width: 2,
+        signed: true,
+        since: 0,
+    },
+    Field {
+        offset: 18,
+        width: 2,
+        signed: true,
+        since: 0,
+    },
+    Field {
+        offset: 20,
+        width: 2,
+        signed: true,
+        since: 0,
+    },
+    Field {
+        offset: 22,
+        width: 2,
+        signed: true,
+        since: 0,
+    },
+    Field {
+        offset: 24,
+        width: 2,
+        signed: true,
+        since: 0,
+    },
+    Field {
+        offset: 26,
+        width: 2,
+        signed: true,
+        since: 0,
+    },
+    Field {
+        offset: 28,
+        width: 2,
+        signed: true,
+        since: 0,
+    },
+    Field {
+        offset: 30,
+        width: 2,
+        signed: true,
+        since: 0,
+    },
+    Field {
+        offset: 32,
+        width: 1,
+        signed: false,
+        since: 0,
+    },
+    Field {
+        offset: 33,
+        width: 1,
+        signed: false,
+        since: 0,
+    },
+    Field {
+        offset: 34,
+        width: 1,
+        signed: false,
+        since: 0,
+    },
+    Field {
+        offset: 35,
+        width: 1,
+        signed: false,
+        since: 0,
+    },
+    Field {
+        offset: 36,
+        width: 1,
+        signed: false,
+        since: 0,
+    },
+    Field {
+        offset: 37,
+        width: 1,
+        signed: false,
+        since: 0,
+    },
+    Field {
+        offset: 38,
+        width: 1,
+        signed: false,
+        since: 0,
+    },
+    Field {
+        offset: 39,
+        width: 1,
+        signed: false,
+        since: 0,
+    },
+    Field {
+        offset: 40,
+        width: 1,
+        signed: false,
+        since: 0,
+    },
+    Field {
+        offset: 41,
+        width: 1,
+        signed: false,
+        since: 0,
+    },
+    Field {
+        offset: 42,
+        width: 4,
+        signed: false,
+        since: 0,
+    },
+    Field {
+        offset: 46,
+        width: 4,
+        signed: false,
+        since: 0,
+    },
+    Field {
+        offset: 50,
+        width: 4,
+        signed: false,
+        since: 0,
+    },
+    Field {
+        offset: 54,
+        width: 4,
+        signed: false,
+        since: 0,
+    },
+    Field {
+        offset: 58,
+        width: 4,
+        signed: false,
+        since: 0,
+    },
+    Field {
+        offset: 62,
+        width: 2,
+        signed: false,
+        since: 0,
+    },
+    Field {
+        offset: 64,
+        width: 2,
+        signed: false,
+        since: 0,
+    },
+    Field {
+        offset: 66,
+        width: 2,
+        signed: false,
+        since: 0,
+    },
+    Field {
+        offset: 68,
+        width: 2,
+        signed: true,
+        since: 0,
+    },
+    Field {
+        offset: 70,
+        width: 2,
+        signed: true,
+        since: 0,
+    },
+    Field {
+        offset: 72,
+        width: 2,
+        signed: true,
+        since: 0,
+    },
+    Field {
+        offset: 74,
+        width: 2,
+        signed: false,
+        since: 0,
+    },
+    Field {
+        offset: 76,
+        width: 2,
+        signed: false,
+        since: 0,
+    },
+    Field {
+        offset: 78,
+        width: 4,
+        signed: false,
+        since: 1,
+    },
+    Field {
+        offset: 82,
+        width: 4,
+        signed: false,
+        since: 1,
+    },
+    Field {
+        offset: 86,
+        width: 2,
+        signed: true,
+        since: 2,
+    },
+    Field {
+        offset: 88,
+        width: 2,
+        signed: true,
+        since: 2,
+    },
+    Field {
+        offset: 90,
+        width: 2,
+        signed: false,
+        since: 2,
+    },
+    Field {
+        offset: 92,
+        width: 2,
+        signed: false,
+        since: 2,
+    },
+    Field {
+        offset: 94,
+        width: 2,
+        signed: false,
+        since: 2,
+    },
+    Field {
+        offset: 96,
+        width: 2,
+        signed: false,
+        since: 5,
+    },
+    Field {
+        offset: 98,
+        width: 2,
+        signed: false,
+        since: 5,
+    },
+];

@@ -1,0 +1,122 @@
+// The fields of an 'OS/2' table: the catalogue, and the numbers that stand in a table's fields.
+// Document 01, "The 'OS/2' fields": big-endian numbers, some of them signed, at the catalogue's places.
+// Relies on `bigendian`. The callers are our own crates, which show that a field lies within the table.
+ghost use mathlib.Core.Path.{_≡_};
+ghost use Prim.Native.Nat.{_≤_, _<_};
+ghost use lib.ListN.{length};
+ghost use lib.IntN.{pos};
+ghost use Rattle.level.specs.Sizes.{tableSize};
+ghost use Rattle.os2_rules.specs.Bits.{bit};
+ghost use Rattle.os2_fields.specs.Fields.{rawIn, raw, version, signedOf, valueIn, opticalSize, valuesOf};
+ghost use Rattle.os2_fields.specs.Reading.{Lies, Word, OpticalField};
+
+mod catalogue;
+
+pub use catalogue::CODE_PAGES;
+pub use catalogue::FSSELECTION;
+pub use catalogue::FSTYPE;
+pub use catalogue::Field;
+pub use catalogue::LOWER_SIZE;
+pub use catalogue::UNICODE_RANGES;
+pub use catalogue::UPPER_SIZE;
+pub use catalogue::VERSION;
+pub use catalogue::WEIGHT;
+pub use catalogue::WIDTH;
+pub use catalogue::entry;
+use os2_rules::Values;
+
+// What the value rules look at.
+pub fn values(table: &[u8]) -> Values
+    requires { ⌜ tableSize (version (now table)) ≤ length (now table) ⌝ }
+    ensures { λ r. ⌜ r ≡ valuesOf (now (table .entry)) ⌝ }
+{
+    Values {
+        version: word(table, VERSION),
+        weight: word(table, WEIGHT),
+        width: word(table, WIDTH),
+        fstype: word(table, FSTYPE),
+        fsselection: word(table, FSSELECTION),
+        lower: optical_size(table, LOWER_SIZE),
+        upper: optical_size(table, UPPER_SIZE),
+    }
+}
+
+// An optical size, 0 where the version has none.
+fn optical_size(table: &[u8], k: usize) -> u16
+    requires { ⌜ OpticalField (now table) k ⌝ }
+    ensures { λ r. ⌜ r ≡ opticalSize (now (table .entry)) k ⌝ }
+{
+    if word(table, VERSION) < 5 {
+        return 0;
+    }
+    word(table, k)
+}
+
+// A field of two bytes.
+pub fn word(table: &[u8], k: usize) -> u16
+    requires { ⌜ Word (now table) k ⌝ }
+    ensures { λ r. ⌜ r ≡ raw (now (table .entry)) k ⌝ }
+{
+    let f = entry(k);
+    let at = f.offset as usize;
+    bigendian::read_u16(table, at)
+}
+
+// The whole number that a field holds.
+pub fn value(table: &[u8], f: Field) -> i64
+    requires { ⌜ Lies (now table) f ⌝ }
+    ensures { λ r. ⌜ r ≡ valueIn (now (table .entry)) f ⌝ }
+{
+    let at = f.offset as usize;
+    if f.signed {
+        return signed(bigendian::read_u16(table, at));
+    }
+    plain(number(table, f))
+}
+
+// The number that a field's bytes make.
+pub fn number(table: &[u8], f: Field) -> u32
+    requires { ⌜ Lies (now table) f ⌝ }
+    ensures { λ r. ⌜ r ≡ rawIn (now (table .entry)) f ⌝ }
+{
+    let at = f.offset as usize;
+    let width = f.width;
+    if width == 1 {
+        return byte(table[at]);
+    }
+    if width == 2 {
+        return bigendian::read_u16(table, at) as u32;
+    }
+    bigendian::read_u32(table, at)
+}
+
+fn byte(x: u8) -> u32
+    ensures { λ r. ⌜ r ≡ x ⌝ }
+{
+    x as u32
+}
+
+// A signed number of two bytes.
+fn signed(x: u16) -> i64
+    ensures { λ r. ⌜ r ≡ signedOf 2 x ⌝ }
+{
+    if x < 32768 {
+        return x as i64;
+    }
+    x as i64 - 65536
+}
+
+// An unsigned number.
+pub fn plain(x: u32) -> i64
+    ensures { λ r. ⌜ r ≡ pos x ⌝ }
+{
+    x as i64
+}
+
+// Bit n of a number.
+pub fn bit_of(x: u32, n: u32) -> u32
+    requires { ⌜ n < 32 ⌝ }
+    ensures { λ r. ⌜ r ≡ bit n x ⌝ }
+{
+    (x >> n) % 2
+}

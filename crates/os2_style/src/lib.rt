@@ -1,0 +1,91 @@
+// Rights, the style position and optical sizes, from the numbers that are stored.
+// Document 01, "Questions on an accepted OS/2 table", the last three questions.
+ghost use mathlib.Core.Path.{_≡_};
+ghost use Rattle.os2_rules.specs.Rules.{WidthRule};
+ghost use Rattle.os2_style.specs.Style.{rightsOf, rightsNumber, float, percentOf, points, sizesOf, saidSizes};
+
+// Document 01's rights, by the bit of fsType that is set among 1 to 3.
+pub enum EmbeddingRights {
+    // None is set.
+    Installable,
+    // Bit 1.
+    Restricted,
+    // Bit 2.
+    Preview,
+    // Bit 3.
+    Editable,
+}
+
+// Document 01's style position: the weight class, and the width class in percent.
+pub struct StylePosition {
+    pub weight: f32,
+    pub width: f32,
+}
+
+// Optical sizes, in points.
+pub enum OpticalSizes {
+    // Every size.
+    Every,
+    // From a size upwards.
+    Upwards(f32),
+    // Between two sizes.
+    Between(f32, f32),
+}
+
+// Rights, from fsType.
+pub fn rights_of(fstype: u16) -> EmbeddingRights
+    ensures { λ r. ⌜ rightsNumber r ≡ rightsOf fstype ⌝ }
+{
+    if 0 < fstype / 8 % 2 {
+        return EmbeddingRights::Editable;
+    }
+    if 0 < fstype / 4 % 2 {
+        return EmbeddingRights::Preview;
+    }
+    if 0 < fstype / 2 % 2 {
+        return EmbeddingRights::Restricted;
+    }
+    EmbeddingRights::Installable
+}
+
+const PERCENTS: [f32; 9] = [50.0, 62.5, 75.0, 87.5, 100.0, 112.5, 125.0, 150.0, 200.0];
+
+// The percentage of a width class.
+pub fn percent(width: u16) -> f32
+    requires { ⌜ WidthRule width ⌝ }
+    ensures { λ r. ⌜ r ≡ percentOf width ⌝ }
+{
+    let i = (width - 1) as usize;
+    PERCENTS[i]
+}
+
+// The style position, from the weight and the width class.
+pub fn position_of(weight: u16, width: u16) -> StylePosition
+    requires { ⌜ WidthRule width ⌝ }
+    ensures { λ r. ⌜ (r .weight ≡ float weight) × (r .width ≡ percentOf width) ⌝ }
+{
+    StylePosition {
+        weight: weight as f32,
+        width: percent(width),
+    }
+}
+
+// Optical sizes, from the stored lower and upper ones.
+pub fn sizes_of(lower: u16, upper: u16) -> OpticalSizes
+    ensures { λ r. ⌜ saidSizes r ≡ sizesOf lower upper ⌝ }
+{
+    if upper == 65535 {
+        if lower == 0 {
+            return OpticalSizes::Every;
+        }
+        return OpticalSizes::Upwards(in_points(lower));
+    }
+    OpticalSizes::Between(in_points(lower), in_points(upper))
+}
+
+// A stored size in points.
+fn in_points(size: u16) -> f32
+    ensures { λ r. ⌜ r ≡ points size ⌝ }
+{
+    size as f32 / 20.0
+}
