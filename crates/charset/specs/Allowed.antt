@@ -4,10 +4,11 @@ use mathlib.Core.Path.{_≡_}
 use mathlib.Core.Bool.{Bool, true, false, cond, not, _&&_, _||_}
 use mathlib.Core.List.{List, [], _∷_}
 use lib.Dec.{leb, eqb}
+use Rattle.characters.specs.Texts.{codes}
 
--- the codes of [ ] ( ) { } < > / %
+-- the ten that are left out
 abbrev pub reserved : List ℕ
-reserved = 91 ∷ 93 ∷ 40 ∷ 41 ∷ 123 ∷ 125 ∷ 60 ∷ 62 ∷ 47 ∷ 37 ∷ []
+reserved = codes "[](){}<>/%"
 
 -- whether a code is one of a list
 abbrev pub oneOf : List ℕ → ℕ → Bool
