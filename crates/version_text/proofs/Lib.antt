@@ -1,0 +1,5 @@
+pub mod Tests
+pub mod Groups
+pub mod Starts
+pub mod Rules
+pub mod Rows

@@ -1,0 +1,3 @@
+pub mod Versions
+pub mod Qualifying
+pub mod Examples

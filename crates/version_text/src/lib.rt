@@ -1,0 +1,102 @@
+// The version number in a lent string, one byte a character or two (wide).
+// Document 01, "PostScript name and version number", and refusal 25. It takes any bytes.
+ghost use mathlib.Core.Path.{_≡_};
+ghost use mathlib.Core.Bool.{true};
+ghost use Prim.Native.Nat.{_≤_, min};
+ghost use Rattle.characters.specs.Strings.{characters, char};
+ghost use Rattle.version_text.specs.Versions.{digit, mayStart, longer, versionIn};
+
+// The version number of a string.
+pub enum Version {
+    // The figures before and after the period.
+    Number { major: u16, minor: u16 },
+    // Refusal 25: no version number in the string.
+    NoNumber,
+}
+
+const PERIOD: u16 = 46;
+
+// A figure of this size or more is none; a longer group is not told from it.
+const LARGE: u32 = 65535;
+
+// The number at the first start, from the left, that yields one.
+pub fn version_of(text: &[u8], wide: bool) -> Version
+    ensures { λ r. ⌜ r ≡ versionIn wide (now (text .entry)) ⌝ }
+{
+    if characters::is_odd(text, wide) {
+        return Version::NoNumber;
+    }
+    let count = characters::count(text, wide);
+    let mut next = 0;
+    'starts: loop {
+        if count <= next {
+            break 'starts Version::NoNumber;
+        }
+        let start = next;
+        next += 1;
+        if !may_start(text, wide, start) {
+            continue 'starts;
+        }
+        let mut major = 0;
+        let mut end = start;
+        while digit_at(text, wide, end) {
+            major = with_digit(major, characters::code(text, wide, end));
+            end += 1;
+        }
+        if characters::code(text, wide, end) != PERIOD {
+            continue 'starts;
+        }
+        let second = end + 1;
+        if !digit_at(text, wide, second) {
+            continue 'starts;
+        }
+        let mut minor = 0;
+        let mut stop = second;
+        loop {
+            if !digit_at(text, wide, stop) {
+                if LARGE <= major {
+                    continue 'starts;
+                }
+                if LARGE <= minor {
+                    continue 'starts;
+                }
+                break 'starts Version::Number {
+                    major: major as u16,
+                    minor: minor as u16,
+                };
+            }
+            minor = with_digit(minor, characters::code(text, wide, stop));
+            stop += 1;
+        }
+    }
+}
+
+// Whether a digit stands at a place that follows no digit.
+fn may_start(text: &[u8], wide: bool, at: usize) -> bool
+    ensures { λ r. ⌜ r ≡ mayStart (characters wide (now (text .entry))) at ⌝ }
+{
+    if at == 0 {
+        return digit_at(text, wide, 0);
+    }
+    if digit_at(text, wide, at - 1) {
+        return false;
+    }
+    digit_at(text, wide, at)
+}
+
+// Whether a digit stands at a place.
+fn digit_at(text: &[u8], wide: bool, at: usize) -> bool
+    ensures { λ r. ⌜ r ≡ digit (char (characters wide (now (text .entry))) at) ⌝ }
+{
+    let code = characters::code(text, wide, at);
+    (48 <= code) & (code <= 57)
+}
+
+// The figure with one more digit behind it, held at 65,535.
+fn with_digit(figure: u32, code: u16) -> u32
+    requires { ⌜ (figure ≤ 65535) × (digit code ≡ true) ⌝ }
+    ensures { λ r. ⌜ r ≡ min 65535 (longer figure code) ⌝ }
+{
+    let value = figure * 10 + (code - 48) as u32;
+    if value < LARGE { value } else { LARGE }
+}
