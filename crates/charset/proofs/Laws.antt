@@ -1,8 +1,9 @@
 -- What the test decides: the proposition, by going through the list of reserved codes; and that it leaves 84 codes, by computing it at each.
 -- Assumes nothing.
-use Prim.Native.Nat.{ℕ, _≤_}
+use Prim.Native.Nat.{ℕ, _+_}
+use native.Mathlib.Numerals.{add-one}
 use mathlib.Core.Path.{_≡_, refl}
-use mathlib.Core.Bool.{Bool, true, false, not, _&&_, _||_, true≢false}
+use mathlib.Core.Bool.{Bool, true, false, cond, not, _&&_, _||_, true≢false}
 use mathlib.Core.List.{List, [], _∷_}
 use mathlib.Core.Logic.{_↔_}
 use lib.Dec.{leb, eqb}
@@ -13,6 +14,11 @@ use Rattle.charset.specs.Allowed.{reserved, oneOf, allowed, allowedBelow
 pub eighty-four : allowedBelow 256 ≡ 84
 unfolding allowedBelow allowed
 eighty-four = refl
+
+-- one code more
+pub allowed-more : (n : ℕ) → allowedBelow (n + 1) ≡ cond (allowed n) 1 0 + allowedBelow n
+unfolding allowedBelow
+allowed-more n = rw add-one
 
 -- ---- the proposition
 
