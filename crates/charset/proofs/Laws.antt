@@ -3,9 +3,10 @@
 use Prim.Native.Nat.{ℕ, _+_}
 use native.Mathlib.Numerals.{add-one}
 use mathlib.Core.Path.{_≡_, refl}
-use mathlib.Core.Bool.{Bool, true, false, cond, not, _&&_, _||_, true≢false}
+use mathlib.Core.Bool.{true, false, cond, not, _&&_, and-eq-true-iff}
 use mathlib.Core.List.{List, [], _∷_}
 use mathlib.Core.Logic.{_↔_}
+use mathlib.Mathlib.Data.Bool.Basic.{or-eq-false-eq-eq-false-and-eq-false}
 use lib.Dec.{leb, eqb}
 use borrow.Author.Tests.{le-leb, leb-true, ne-eqb, eqb-false, not-true}
 use Rattle.charset.specs.Allowed.{reserved, oneOf, allowed, allowedBelow, NoneOf, Allowed}
@@ -22,18 +23,10 @@ allowed-more n = rw add-one
 
 -- ---- the proposition
 
-and-true : (a b : Bool) → (a && b) ≡ true → (a ≡ true) × (b ≡ true)
-and-true true b e = (refl, e)
-and-true false b e = absurd (true≢false (cc))
-
-or-false : (a b : Bool) → (a || b) ≡ false → (a ≡ false) × (b ≡ false)
-or-false true b e = absurd (true≢false e)
-or-false false b e = (refl, e)
-
 none-of : (xs : List ℕ) (c : ℕ) → oneOf xs c ≡ false → NoneOf xs c
 none-of [] c e = tt
 none-of (x ∷ xs) c e =
-    let p = or-false (eqb c x) (oneOf xs c) e in
+    let p = or-eq-false-eq-eq-false-and-eq-false (eqb c x) (oneOf xs c) .0 e in
     (eqb-false c x (p .0), none-of xs c (p .1))
 
 one-of : (xs : List ℕ) (c : ℕ) → NoneOf xs c → oneOf xs c ≡ false
@@ -46,19 +39,9 @@ allowed-is c = (holds, passes)
   where
     holds : allowed c ≡ true → Allowed c
     holds e =
-        let p = and-true (leb 33 c && leb c 126) (not (oneOf reserved c)) e in
-        let q = and-true (leb 33 c) (leb c 126) (p .0) in
+        let p = and-eq-true-iff (leb 33 c && leb c 126) (not (oneOf reserved c)) .0 e in
+        let q = and-eq-true-iff (leb 33 c) (leb c 126) .0 (p .0) in
         record { least = leb-true 33 c (q .0); most = leb-true c 126 (q .1); other = none-of reserved c (not-true _ (p .1)) }
 
     passes : Allowed c → allowed c ≡ true
     passes a = rw (le-leb 33 c (a .least), le-leb c 126 (a .most), one-of reserved c (a .other))
-
--- ---- tests in a row, for the code's order of them
-
-pub or-assoc : (a b c : Bool) → ((a || b) || c) ≡ (a || (b || c))
-or-assoc true b c = refl
-or-assoc false b c = refl
-
-pub or-none : (a : Bool) → (a || false) ≡ a
-or-none true = refl
-or-none false = refl

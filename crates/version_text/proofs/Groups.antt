@@ -1,12 +1,12 @@
 -- Laws of a digit group: where it ends, and what a loop that reads it has in hand. Both groups of a number are read by the same laws.
 -- Assumes nothing.
-use Prim.Native.Nat.{ℕ, zero, suc, _+_, _*_, _-_, _<_, _≤_, min}
+use Prim.Native.Nat.{ℕ, zero, suc, _+_, _-_, _<_, _≤_, min}
 use native.Mathlib.Omega.{arith}
 use native.Mathlib.Numerals.{add-one}
-use mathlib.Core.Path.{_≡_, refl, ap, sym, _∙_}
-use mathlib.Core.Bool.{Bool, true, false, cond, _&&_}
+use mathlib.Core.Path.{_≡_, refl, ap, _∙_}
+use mathlib.Core.Bool.{true, false, cond}
 use mathlib.Core.List.{List, [], _∷_}
-use lib.Dec.{leb}
+use mathlib.Mathlib.Data.Bool.Basic.{eq-true-of-not-eq-false, eq-false-of-not-eq-true}
 use lib.ListN.{length, drop}
 use lib.Seq.{drop-nil}
 use Rattle.characters.specs.Strings.{char}
@@ -75,31 +75,22 @@ reading-end l s j a d r =
 
 -- ---- the digits that start at a place: each is one, none follows them, and no other number of digits is so
 
-pub by-test : {A : Type 0} (t : Bool) → (t ≡ true → A) → (t ≡ false → A) → A
-by-test true f g = f refl
-by-test false f g = g refl
+digit-there : (l : List ℕ) (i : ℕ) → 0 < digits (drop i l) → digit (char l i) ≡ true
+digit-there l i h = eq-true-of-not-eq-false (λ d. omega (arith, digits-none l i d))
 
 pub digits-each : (m : ℕ) (l : List ℕ) (i : ℕ) → m < digits (drop i l) → digit (char l (i + m)) ≡ true
-digits-each zero l i h =
-    let e : i + 0 ≡ i = omega arith in
-    rw e (by-test (digit (char l i)) (λ d. d) (λ d. absurd (omega (arith, digits-none l i d))))
+digits-each zero l i h = let e : i + 0 ≡ i = omega arith in rw e (digit-there l i h)
 digits-each (suc m) l i h =
     let e : i + suc m ≡ suc i + m = omega arith in
-    rw e
-    (by-test (digit (char l i))
-    (λ d. digits-each m l (suc i) (omega (arith, digits-more l i d)))
-    (λ d. absurd (omega (arith, digits-none l i d))))
+    rw e (digits-each m l (suc i) (omega (arith, digits-more l i (digit-there l i (omega arith)))))
 
 pub digits-end : (n : ℕ) (l : List ℕ) (i : ℕ) → digits (drop i l) ≡ n → digit (char l (i + n)) ≡ false
 digits-end zero l i h =
     let e : i + 0 ≡ i = omega arith in
-    rw e (by-test (digit (char l i)) (λ d. absurd (omega (arith, digits-more l i d))) (λ d. d))
+    rw e (eq-false-of-not-eq-true (λ d. omega (arith, digits-more l i d)))
 digits-end (suc n) l i h =
     let e : i + suc n ≡ suc i + n = omega arith in
-    rw e
-    (by-test (digit (char l i))
-    (λ d. digits-end n l (suc i) (omega (arith, digits-more l i d)))
-    (λ d. absurd (omega (arith, digits-none l i d))))
+    rw e (digits-end n l (suc i) (omega (arith, digits-more l i (digit-there l i (omega arith)))))
 
 pub digits-are : (n : ℕ) (l : List ℕ) (i : ℕ) → ((m : ℕ) → m < n → digit (char l (i + m)) ≡ true) → digit (char l (i + n)) ≡ false → digits (drop i l) ≡ n
 digits-are zero l i h g =

@@ -1,24 +1,23 @@
 -- The definition gives what document 01's propositions say: a start yields a number exactly where it qualifies, so the first that yields one is the first that qualifies.
 -- Assumes nothing.
-use Prim.Native.Nat.{ℕ, zero, suc, _+_, _*_, _-_, _/_, _%_, _<_, _≤_, min}
+use Prim.Native.Nat.{ℕ, zero, suc, _+_, _-_, _/_, _%_, _<_, _≤_}
 use native.Mathlib.Omega.{arith}
-use native.Mathlib.Decide.{decLt}
 use mathlib.Core.Path.{_≡_, refl, sym, ap, _∙_}
-use mathlib.Core.Bool.{Bool, true, false, cond, not, _&&_, true≢false}
-use mathlib.Core.List.{List, map}
+use mathlib.Core.Bool.{Bool, true, false, cond, not, true≢false, and-eq-true-iff}
+use mathlib.Core.List.{List}
 use mathlib.Core.Logic.{_↔_, _⊎_, inl, inr, ⊎-elim}
 use lib.Dec.{eqb}
-use lib.ListN.{length, getD, drop}
+use lib.ListN.{length, drop}
 use borrow.Author.Tests.{not-true, ltb-true, eqb-true, eq-eqb}
 use Rattle.characters.specs.Strings.{characters, char, odd}
 use Rattle.characters.proofs.Laws.{char-within, char-pairs, length-pairs}
-use Rattle.version_text.specs.Versions.{digit, period, digits, groupEnd, figure, groupFigure, small, mayStart, isNumber, numberAt, firstOf, versionIn, Said, number, refusal, said}
+use Rattle.version_text.specs.Versions.{digit, period, digits, groupEnd, figure, groupFigure, small, mayStart, isNumber, numberAt, firstOf, versionIn, number, refusal, said}
 use Rattle.version_text.specs.Qualifying.{Digit, Group, Qualifies, First, Odd, Right, HighByteZero}
 use Rattle.version_text.specs.declared.Version.{Version}
 use Rattle.version_text.specs.declared.Version.the-variants.{Number, NoNumber}
-use Rattle.version_text.proofs.Tests.{and-true, all-true, digit-range, digit-is, digit-not, may-start-later}
-use Rattle.version_text.proofs.Groups.{by-test, digit-within, digits-more, digits-each, digits-end, digits-are, Read}
-use Rattle.version_text.proofs.Starts.{yields, FirstAt, first-found, first-nothing, first-empty, first-number}
+use Rattle.version_text.proofs.Tests.{all-true, digit-range, digit-is, digit-not}
+use Rattle.version_text.proofs.Groups.{digit-within, digits-more, digits-each, digits-end, digits-are, Read}
+use Rattle.version_text.proofs.Starts.{yields, first-found, first-nothing, first-empty, first-number}
 
 -- ---- a digit group
 
@@ -54,7 +53,7 @@ alone-there : (l : List ℕ) (i : ℕ) → mayStart l i ≡ true → (digit (cha
 unfolding mayStart
 alone-there l zero e = (e, λ h q. absurd (omega arith))
 alone-there l (suc i) e =
-    let p = and-true (not (digit (char l i))) (digit (char l (suc i))) e in
+    let p = and-eq-true-iff (not (digit (char l i))) (digit (char l (suc i))) .0 e in
     let f : suc i - 1 ≡ i = omega arith in
     (p .1, λ h q. true≢false (sym (digit-is (char l i) (rw f at q)) ∙ not-true _ (p .0)))
 
@@ -158,7 +157,7 @@ none-first l = (there, back)
 odd-is : (wide : Bool) (bytes : List ℕ) → odd wide bytes ≡ true → Odd wide bytes
 unfolding odd
 odd-is wide bytes e =
-    let p = and-true wide (eqb (length bytes % 2) 1) e in
+    let p = and-eq-true-iff wide (eqb (length bytes % 2) 1) .0 e in
     (p .0, eqb-true _ _ (p .1))
 
 odd-not : (wide : Bool) (bytes : List ℕ) → odd wide bytes ≡ false → Odd wide bytes → ⊥

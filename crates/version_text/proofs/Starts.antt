@@ -3,22 +3,18 @@
 use Prim.Native.Nat.{ℕ, zero, suc, _+_, _<_, _≤_, min}
 use native.Mathlib.Omega.{arith}
 use native.Mathlib.Numerals.{add-one}
-use mathlib.Core.Path.{_≡_, refl, sym, ap, _∙_}
-use mathlib.Core.Bool.{Bool, true, false, _&&_}
+use mathlib.Core.Path.{_≡_, refl, _∙_}
+use mathlib.Core.Bool.{true, false, and-false}
 use mathlib.Core.List.{List}
 use native.Mathlib.Decide.{decLt}
 use borrow.Author.Tests.{lt-ltb, le-ltb, eq-eqb, ne-eqb}
 use Rattle.characters.specs.Strings.{char}
-use Rattle.version_text.specs.Versions.{digit, period, groupEnd, groupFigure, small, mayStart, isNumber, numberAt, orElse, firstOf}
+use Rattle.version_text.specs.Versions.{digit, period, groupFigure, small, mayStart, isNumber, numberAt, orElse, firstOf}
 use Rattle.version_text.specs.declared.Version.{Version}
 use Rattle.version_text.specs.declared.Version.the-variants.{Number, NoNumber}
 use Rattle.version_text.proofs.Groups.{Read}
 
 -- ---- a start
-
-and-none : (a : Bool) → (a && false) ≡ false
-and-none true = refl
-and-none false = refl
 
 large : (a x : ℕ) → a ≡ min 65535 x → 65535 ≤ a → small x ≡ false
 unfolding small
@@ -35,20 +31,20 @@ module _ (l : List ℕ) (i : ℕ) where
   module _ (j a : ℕ) (first : Read l i j a) where
     pub no-period : (char l j ≡ 46 → ⊥) → numberAt l i ≡ NoNumber
     unfolding numberAt isNumber period
-    no-period n = rw (← first .ends, ne-eqb (char l j) 46 n, and-none)
+    no-period n = rw (← first .ends, ne-eqb (char l j) 46 n, and-false)
 
     pub no-second : digit (char l (j + 1)) ≡ false → numberAt l i ≡ NoNumber
     unfolding numberAt isNumber
-    no-second e = rw (← first .ends, e, and-none)
+    no-second e = rw (← first .ends, e, and-false)
 
     pub first-large : 65535 ≤ a → numberAt l i ≡ NoNumber
     unfolding numberAt isNumber
-    first-large h = rw (large a (groupFigure l i) (first .held) h, and-none)
+    first-large h = rw (large a (groupFigure l i) (first .held) h, and-false)
 
     module _ (k b : ℕ) (second : Read l (j + 1) k b) where
       pub second-large : 65535 ≤ b → numberAt l i ≡ NoNumber
       unfolding numberAt isNumber
-      second-large h = rw (← first .ends, large b (groupFigure l (j + 1)) (second .held) h, and-none)
+      second-large h = rw (← first .ends, large b (groupFigure l (j + 1)) (second .held) h, and-false)
 
       pub yields : mayStart l i ≡ true → char l j ≡ 46 → digit (char l (j + 1)) ≡ true → a < 65535 → b < 65535 → numberAt l i ≡ Number a b
       unfolding numberAt isNumber period small

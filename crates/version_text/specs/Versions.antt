@@ -1,6 +1,6 @@
 -- Document 01, "PostScript name and version number": the version number in the characters of a string.
 use Prim.Native.Nat.{ℕ, zero, suc, _+_, _*_, _-_}
-use mathlib.Core.Bool.{Bool, true, false, cond, not, _&&_}
+use mathlib.Core.Bool.{Bool, cond, not, _&&_}
 use mathlib.Core.List.{List, [], _∷_}
 use lib.Dec.{leb, ltb, eqb}
 use lib.ListN.{length, drop}
@@ -8,7 +8,7 @@ use Rattle.characters.specs.Strings.{characters, char, odd}
 use Rattle.version_text.specs.declared.Version.{Version}
 use Rattle.version_text.specs.declared.Version.the-variants.{Number, NoNumber}
 
--- the codes of the digits 0 to 9, and of the period
+-- the codes of the digits 0 to 9, and of the period; a two-byte character with a high byte above 0 has none of them
 unfoldable pub digit : ℕ → Bool
 digit c = leb 48 c && leb c 57
 
@@ -57,11 +57,12 @@ numberAt l i =
     let k : ℕ = groupEnd l i + 1 in
     cond (isNumber l i k) (Number (groupFigure l i) (groupFigure l k)) NoNumber
 
--- "the first start, from the left, that yields a number wins": of the starts below n
+-- the first of two answers that is a number
 abbrev pub orElse : Version → Version → Version
 orElse (Number a b) v = Number a b
 orElse NoNumber v = v
 
+-- "the first start, from the left, that yields a number wins": of the starts below n
 unfoldable pub firstOf : (ℕ → Version) → ℕ → Version
 firstOf yields zero = NoNumber
 firstOf yields (suc n) = orElse (firstOf yields n) (yields n)

@@ -16,10 +16,11 @@ pub enum Version {
 
 const PERIOD: u16 = 46;
 
-// A figure of this size or more is none; a longer group is not told from it.
+// The least figure that is too large; the search holds every larger one here.
 const LARGE: u32 = 65535;
 
-// The number at the first start, from the left, that yields one.
+// The number at the first start, from the left, that yields one. A digit group is read at most once as a first
+// group and once as a second, so the search takes time linear in the text's length.
 pub fn version_of(text: &[u8], wide: bool) -> Version
     ensures { λ r. ⌜ r ≡ versionIn wide (now (text .entry)) ⌝ }
 {
@@ -37,12 +38,14 @@ pub fn version_of(text: &[u8], wide: bool) -> Version
         if !may_start(text, wide, start) {
             continue 'starts;
         }
+        // The first digit group, as long as it goes.
         let mut major = 0;
         let mut end = start;
         while digit_at(text, wide, end) {
             major = with_digit(major, characters::code(text, wide, end));
             end += 1;
         }
+        // A period and a digit behind it.
         if characters::code(text, wide, end) != PERIOD {
             continue 'starts;
         }
@@ -50,6 +53,7 @@ pub fn version_of(text: &[u8], wide: bool) -> Version
         if !digit_at(text, wide, second) {
             continue 'starts;
         }
+        // The second digit group; where it ends, the start is decided.
         let mut minor = 0;
         let mut stop = second;
         loop {
