@@ -11,7 +11,7 @@ use lib.ListN.{length, drop}
 use borrow.Author.Tests.{not-true, ltb-true, eqb-true, eq-eqb}
 use Rattle.characters.specs.Strings.{characters, char, odd}
 use Rattle.characters.proofs.Laws.{char-within, char-pairs, length-pairs}
-use Rattle.version_text.specs.Versions.{digit, period, digits, groupEnd, figure, groupFigure, small, mayStart, isNumber, numberAt, firstOf, versionIn, number, refusal, said}
+use Rattle.version_text.specs.Versions.{digit, period, digits, groupEnd, figure, groupFigure, small, mayStart, isNumber, numberAt, firstOf, versionIn, Said, number, refusal, said}
 use Rattle.version_text.specs.Qualifying.{Digit, Group, Qualifies, First, Odd, Right, HighByteZero}
 use Rattle.version_text.specs.declared.Version.{Version}
 use Rattle.version_text.specs.declared.Version.the-variants.{Number, NoNumber}
@@ -194,6 +194,14 @@ version-right = record { found = λ wide bytes a b. found wide bytes a b (odd wi
       λ q. inr (none-first (characters wide bytes) .0 (said-refusal _ q)),
       λ s. ⊎-elim (λ o. absurd (odd-not wide bytes e o)) (λ h. ap said (none-first (characters wide bytes) .1 h)) s,
     )
+
+-- and of no other reader: they settle every answer
+pub version-only : (read : Bool → List ℕ → Said) → Right read → (wide : Bool) (bytes : List ℕ) → read wide bytes ≡ said (versionIn wide bytes)
+version-only read right wide bytes = by (versionIn wide bytes) refl
+  where
+    by : (v : Version) → versionIn wide bytes ≡ v → read wide bytes ≡ said v
+    by (Number a b) e = right .found wide bytes a b .1 (version-right .found wide bytes a b .0 (ap said e))
+    by NoNumber e = right .none wide bytes .1 (version-right .none wide bytes .0 (ap said e))
 
 pub high-byte-zero : HighByteZero
 high-byte-zero bytes i h =

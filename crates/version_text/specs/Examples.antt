@@ -11,7 +11,7 @@ pub record Example : Type 0 where
   pub text : String
   pub reads : Said
 
--- the starred rows; then a later start within what a failed one had read, and none there
+-- the starred rows; then a number within what a failed start had read, and a text of which every start fails
 abbrev pub examples : List Example
 examples =
     record { text = "Version 1.70000 2.5"; reads = number 2 5 }

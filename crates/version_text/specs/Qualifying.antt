@@ -35,10 +35,11 @@ pub record First (l : List ℕ) (a b : ℕ) : Type 0 where
   pub here : Qualifies l start a b
   pub least : (i x y : ℕ) → i < start → Qualifies l i x y → ⊥
 
+-- a two-byte string of odd length
 abbrev pub Odd : Bool → List ℕ → Type 0
 Odd wide bytes = (wide ≡ true) × (length bytes % 2 ≡ 1)
 
--- a reader gives the number at the first start that qualifies, and 25 exactly where none does or the length is odd
+-- a reader answers a number exactly where it stands at the first start that qualifies, and 25 exactly where none does or the length is odd
 pub record Right (read : Bool → List ℕ → Said) : Type 0 where
   pub found : (wide : Bool) (bytes : List ℕ) (a b : ℕ)
       → (read wide bytes ≡ number a b) ↔ ((Odd wide bytes → ⊥) × First (characters wide bytes) a b)
