@@ -1,4 +1,5 @@
-// Writes the characters of a PostScript name, then what version texts read: those of its input, one a line, and some of its own.
+// Document 01, "PostScript name and version number" and its version rows: writes the characters of a PostScript name,
+// then what version texts read, those of its input, one a line, and some of its own.
 // A row is the text and its two figures or the refusal's number; a wide row's text has two bytes a character.
 ghost use mathlib.Core.Path.{_≡_};
 use libc::STDIN_FILENO;
