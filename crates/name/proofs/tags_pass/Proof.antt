@@ -1,0 +1,63 @@
+use Prim.Native.Nat.{_≤_, _<_}
+use lib.ListN.{length}
+use Rattle.name.specs.Layout.{tagsEnd}
+use native.Mathlib.Omega.{arith}
+use borrow.Author.Tests.{lt-ltb, le-ltb}
+use mathlib.Core.Path.{sym}
+use Rattle.name.specs.Acceptance.{tagsPass}
+use Rattle.name.proofs.Layouts.{format-0, format-1}
+use borrow.Author.Needs.{needs}
+use Rattle.name.proofs.tags_pass.Statement.{statement}
+use Rattle.name.proofs.tags_pass.Tie as tie
+
+format-number-requires : tie.Need-format-number-requires
+format-number-requires c κs = search needs
+
+returns : tie.Need-returns
+unfolding tagsPass
+returns c = let t = c .before .before .before .args .table .now in let e = format-0 t (cc) in let h : tagsEnd t ≤ length t = omega arith in sym (le-ltb _ _ h)
+
+records-end-requires : tie.Need-records-end-requires
+records-end-requires c κs = search needs
+
+add-if2 : tie.Need-add-if2
+add-if2 c = search needs
+
+returns-2 : tie.Need-returns-2
+unfolding tagsPass
+returns-2 c = let t = c .before .before .before .before .before .args .table .now in let e = format-1 t (λ z. c .before .before .if1 .left (cc)) in let h : length t < tagsEnd t = omega arith in sym (lt-ltb _ _ h)
+
+add-result : tie.Need-add-result
+add-result c = search needs
+
+read-u16-requires : tie.Need-read-u16-requires
+read-u16-requires c κs = search needs
+
+cast-result : tie.Need-cast-result
+cast-result c = search needs
+
+mul-result : tie.Need-mul-result
+mul-result c = search needs
+
+add-result-2 : tie.Need-add-result-2
+add-result-2 c = search needs
+
+returns-3 : tie.Need-returns-3
+unfolding tagsPass
+returns-3 c = let e = format-1 (c .before .before .before .before .before .before .args .table .now) (λ z. c .before .before .before .if1 .left (cc)) in cc
+
+pub tags-pass-spec : {M : Type 1} → statement M
+tags-pass-spec =
+    tie.close
+    (tie.spec
+    format-number-requires
+    returns
+    records-end-requires
+    add-if2
+    returns-2
+    add-result
+    read-u16-requires
+    cast-result
+    mul-result
+    add-result-2
+    returns-3)
