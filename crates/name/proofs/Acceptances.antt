@@ -13,9 +13,9 @@ use Rattle.name.specs.declared.Refusal.{Refusal}
 use Rattle.name.specs.declared.Verdict.{Verdict}
 use Rattle.name.specs.declared.Verdict.the-variants.{Accepted}
 use Rattle.name.specs.Layout.{format, count, storage, platform, language, textAt, recordsEnd, tagCount, tagAt, tagsEnd, stringEnd, keyOf}
-use Rattle.name.specs.Acceptance.{_then_, when, tagsPass, misplaced, stringPasses, languageRefused, notAbove, layoutFault, recordFault, tagFault, Framed}
+use Rattle.name.specs.Acceptance.{_then_, when, tagsPass, misplaced, stringPasses, languageRefused, notAbove, layoutFault, recordFault, tagFault, checkOf, Framed}
 use Rattle.name.specs.Acceptable.{LanguageAllowed}
-use Rattle.name.proofs.Firsts.{then-accepted, when-accepted}
+use Rattle.name.proofs.Firsts.{then-accepted, when-accepted, first-accepted}
 
 or-false : (a b : Bool) → ((a || b) ≡ false) ↔ ((a ≡ false) × (b ≡ false))
 or-false false b = (λ e. (refl, e), λ p. p .1)
@@ -168,3 +168,35 @@ record-accepted t i = (
         ),
       ),
 )
+
+-- none of 10 to 18
+pub record Checked (t : List ℕ) : Type 0 where
+  pub laid : Laid t
+  pub records : (i : ℕ) → i < count t → Sound t i
+  pub tags : (i : ℕ) → i < tagCount t → stringEnd t (tagAt t i) ≤ length t
+
+module _ (t : List ℕ) where
+  pub check-accepted : (checkOf t ≡ Accepted) ↔ Checked t
+  unfolding checkOf
+  check-accepted = (
+    (λ e.
+        let p = then-accepted _ _ .0 e in
+        let q = then-accepted _ _ .0 (p .1) in
+        record {
+          laid = layout-accepted t .0 (p .0);
+          records = λ i h. record-accepted t i .0 (first-accepted _ _ .0 (q .0) i h);
+          tags = λ i h. tag-accepted t i .0 (first-accepted _ _ .0 (q .1) i h);
+        }),
+    λ k.
+        then-accepted _ _ .1 (
+          layout-accepted t .1 (k .laid),
+          then-accepted _ _ .1 (
+            first-accepted _ _ .1 (λ i h. record-accepted t i .1 (k .records i h)),
+            first-accepted _ _ .1 (λ i h. tag-accepted t i .1 (k .tags i h)),
+          ),
+        ),
+  )
+
+  -- each key of an accepted table is above the one before it
+  pub keys-rise : checkOf t ≡ Accepted → (i : ℕ) → suc i < count t → keyOf t i < keyOf t (suc i)
+  keys-rise e i h = above t i .0 (check-accepted .0 e .records (suc i) h .order)

@@ -10,6 +10,9 @@ use borrow.Author.Needs.{needs}
 use lib.ListN.{length}
 use borrow.Author.Tests.{ltb-false, lt-ltb, le-ltb, le-leb, lt-leb, eq-eqb, ne-eqb}
 use Rattle.bigendian.specs.Numbers.{number}
+use Rattle.name.specs.declared.Refusal.{Refusal}
+use Rattle.name.specs.declared.Refusal.the-variants.{TooShort, UnknownFormat, RecordsPastEnd, TagsPastEnd, StorageMisplaced, RecordString, TagString, KeyNotAbove, LanguageRefused}
+use Rattle.name.specs.Refusals.{numberOf}
 use Rattle.name.specs.Layout.{format, recordsEnd, tagCount, tagsAt}
 use Rattle.name.specs.Acceptance.{tagsPass, Framed}
 
@@ -34,6 +37,18 @@ module _ (t : List ℕ) where
   pub framed : 6 ≤ length t → recordsEnd t ≤ length t → tagsPass t ≡ false → Framed t
   unfolding tagsPass
   framed l r p = record { front = l; records = r; tags = ltb-false _ _ p }
+
+-- the numbers are 10 to 18
+pub number-most : (r : Refusal) → numberOf r ≤ 18
+number-most TooShort = omega arith
+number-most UnknownFormat = omega arith
+number-most RecordsPastEnd = omega arith
+number-most TagsPastEnd = omega arith
+number-most StorageMisplaced = omega arith
+number-most (RecordString i) = omega arith
+number-most (TagString i) = omega arith
+number-most (KeyNotAbove i) = omega arith
+number-most (LanguageRefused i) = omega arith
 
 -- for `search`: what closes a need, and the tests that the branches on the way decide
 pub ruleset decided = (needs, lt-ltb, le-ltb, le-leb, lt-leb, eq-eqb, ne-eqb)

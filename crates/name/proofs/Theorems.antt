@@ -4,16 +4,15 @@ use Prim.Native.Nat.{ℕ, zero, suc, _+_, _*_, _≤_, _<_}
 use mathlib.Core.Path.{_≡_}
 use mathlib.Core.Logic.{_⊎_, inl, inr, ⊎-elim}
 use mathlib.Core.List.{List}
-use mathlib.Core.Bool.{Bool, true, false, cond}
+use mathlib.Core.Bool.{false}
 use native.Mathlib.Decide.{decLt}
 use native.Mathlib.Omega.{arith}
 use Rattle.bigendian.specs.Numbers.{Bytes}
 use Rattle.name.specs.declared.Verdict.the-variants.{Accepted}
 use Rattle.name.specs.Layout.{format, count}
-use Rattle.name.specs.Acceptance.{checkOf, notAbove, recordFault}
+use Rattle.name.specs.Acceptance.{checkOf, notAbove}
 use Rattle.name.specs.Acceptable.{Acceptable, AcceptedExactlyWhen, AtMost5460}
-use Rattle.name.proofs.Firsts.{then-accepted, first-accepted}
-use Rattle.name.proofs.Acceptances.{Sound, layout-accepted, tag-accepted, record-accepted, language-fits, first-above, above}
+use Rattle.name.proofs.Acceptances.{Checked, check-accepted, language-fits, first-above, above}
 use Rattle.name.proofs.Keys.{key-below, word-lt}
 use Rattle.name.proofs.Layouts.{tags-after}
 
@@ -25,15 +24,11 @@ format-known f h = side (decLt 0 f)
     side (no p) = inl (omega arith)
 
 pub accepted-exactly-when : AcceptedExactlyWhen checkOf
-unfolding checkOf
-accepted-exactly-when t b = (forth, back)
+accepted-exactly-when t b = (λ e. forth (check-accepted t .0 e), λ a. check-accepted t .1 (back a))
   where
-    forth : checkOf t ≡ Accepted → Acceptable t
-    forth e =
-        let p = then-accepted _ _ .0 e in
-        let q = then-accepted _ _ .0 (p .1) in
-        let l = layout-accepted t .0 (p .0) in
-        let each : (i : ℕ) → i < count t → Sound t i = λ i h. record-accepted t i .0 (first-accepted (recordFault t) (count t) .0 (q .0) i h) in
+    forth : Checked t → Acceptable t
+    forth k =
+        let l = k .laid in
         record {
           long = l .front;
           known = format-known (format t) (l .known);
@@ -41,21 +36,19 @@ accepted-exactly-when t b = (forth, back)
           tags = l .tags;
           after = l .after;
           within = l .within;
-          strings = λ i h. each i h .string;
-          tagStrings = λ i h. tag-accepted t i .0 (first-accepted _ _ .0 (q .1) i h);
-          rising = λ i h. key-below t b i (suc i) .0 (above t i .0 (each (suc i) h .order));
-          languages = λ i h. language-fits t i (l .known) .0 (each i h .language);
+          strings = λ i h. k .records i h .string;
+          tagStrings = k .tags;
+          rising = λ i h. key-below t b i (suc i) .0 (above t i .0 (k .records (suc i) h .order));
+          languages = λ i h. language-fits t i (l .known) .0 (k .records i h .language);
         }
 
-    back : Acceptable t → checkOf t ≡ Accepted
+    back : Acceptable t → Checked t
     back a =
-        then-accepted _ _ .1 (
-          layout-accepted t .1 (record { front = a .long; known = known; records = a .records; tags = a .tags; after = a .after; within = a .within }),
-          then-accepted _ _ .1 (
-            first-accepted _ _ .1 (λ i h. record-accepted t i .1 (record { string = a .strings i h; language = language-fits t i known .1 (a .languages i h); order = order i h })),
-            first-accepted _ _ .1 (λ i h. tag-accepted t i .1 (a .tagStrings i h)),
-          ),
-        )
+        record {
+          laid = record { front = a .long; known = known; records = a .records; tags = a .tags; after = a .after; within = a .within };
+          records = λ i h. record { string = a .strings i h; language = language-fits t i known .1 (a .languages i h); order = order i h };
+          tags = a .tagStrings;
+        }
       where
         known : format t ≤ 1
         known = ⊎-elim (λ f. omega arith) (λ f. omega arith) (a .known)

@@ -1,0 +1,62 @@
+use mathlib.Core.Path.{_≡_, sym}
+use denote.Ref.{now}
+use Rattle.name.specs.Acceptance.{checkOf}
+use Rattle.name.specs.declared.Verdict.the-variants.{Accepted, Refused}
+use Rattle.name.specs.declared.Place.the-variants.{At}
+use Rattle.name_lookup.proofs.Lookups.{record-in, lookup-refused, lookup-at, lookup-none}
+use borrow.Author.Needs.{needs}
+use Rattle.name_lookup.proofs.lookup.Statement.{statement}
+use Rattle.name_lookup.proofs.lookup.Tie as tie
+
+check-requires : tie.Need-check-requires
+check-requires c κs = search needs
+
+enum-known-r : tie.Need-enum-known-r
+enum-known-r c = search needs
+
+returns : tie.Need-returns
+returns c = let e : checkOf (now (c .before .before .before .before .before .args .table)) ≡ Refused (c .before .r .given .0 .0) = cc in sym (lookup-refused _ _ _ _ _ e)
+
+enum-told : tie.Need-enum-told
+enum-told c = search needs
+
+-- past its check the table is accepted
+accepted : (c : tie.After-enum-told) → checkOf (now (c .before .before .before .before .args .table)) ≡ Accepted
+accepted c = cc
+
+-- what halving found
+at : (c : tie.After-known-told2) → c .before .before .before .find .result ≡ At (c .before .i .given .0 .0)
+at c = cc
+
+find-requires : tie.Need-find-requires
+find-requires c κs = accepted c
+
+enum-known-i : tie.Need-enum-known-i
+enum-known-i c = search needs
+
+text-of-requires : tie.Need-text-of-requires
+text-of-requires c κs = (accepted (c .before .before .before .before), record-in _ _ _ _ _ (c .before .before .before .find .ensures) (at c) .0)
+
+enum-told-2 : tie.Need-enum-told-2
+enum-told-2 c = search needs
+
+returns-2 : tie.Need-returns-2
+returns-2 c = let k = c .before in let f = lookup-at _ _ _ _ _ (k .before .before .before .find .ensures) (accepted (k .before .before .before .before)) (at k) in cc
+
+returns-3 : tie.Need-returns-3
+returns-3 c = sym (lookup-none _ _ _ _ _ (c .before .before .find .ensures) (accepted (c .before .before .before)) (cc))
+
+pub lookup-spec : {M : Type 1} → statement M
+lookup-spec =
+    tie.close
+    (tie.spec
+    check-requires
+    enum-known-r
+    returns
+    enum-told
+    find-requires
+    enum-known-i
+    text-of-requires
+    enum-told-2
+    returns-2
+    returns-3)
