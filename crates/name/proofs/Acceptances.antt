@@ -5,16 +5,17 @@ use mathlib.Core.Path.{_≡_, refl}
 use mathlib.Core.Logic.{_⊎_, inl, inr, ⊎-elim, _↔_}
 use mathlib.Core.List.{List}
 use mathlib.Core.Bool.{Bool, true, false, _||_}
-use native.Mathlib.Decide.{decLt}
+use native.Mathlib.Decide.{decLt, ℕ-discrete}
 use native.Mathlib.Omega.{arith}
 use lib.ListN.{length}
 use borrow.Author.Tests.{ltb-false, leb-false, lt-ltb, le-ltb, le-leb, lt-leb, eq-eqb, ne-eqb}
 use Rattle.name.specs.declared.Refusal.{Refusal}
 use Rattle.name.specs.declared.Verdict.{Verdict}
 use Rattle.name.specs.declared.Verdict.the-variants.{Accepted}
-use Rattle.name.specs.Layout.{format, count, storage, platform, language, textAt, recordsEnd, tagCount, tagAt, tagsEnd, stringEnd, keyOf}
-use Rattle.name.specs.Acceptance.{_then_, when, tagsPass, misplaced, stringPasses, languageRefused, notAbove, layoutFault, recordFault, tagFault, checkOf, Framed}
+use Rattle.name.specs.Layout.{format, count, storage, recordAt, platform, language, textAt, recordsEnd, tagCount, tagAt, tagsEnd, stringEnd, keyOf}
+use Rattle.name.specs.Acceptance.{_then_, when, tagsPass, misplaced, stringPasses, languageRefused, notAbove, layoutFault, recordFault, tagFault, checkOf, Framed, firstOf, FitAndRise, LanguagesFit}
 use Rattle.name.specs.Acceptable.{LanguageAllowed}
+use Rattle.name.proofs.Layouts.{format-0}
 use Rattle.name.proofs.Firsts.{then-accepted, when-accepted, first-accepted}
 
 or-false : (a b : Bool) → ((a || b) ≡ false) ↔ ((a ≡ false) × (b ≡ false))
@@ -146,6 +147,22 @@ above t i = (
     before : suc i - 1 ≡ i
     before = omega arith
 
+-- a key above the one before it, in the words of a loop
+pub order-ok : (t : List ℕ) (i : ℕ) → (0 < i → keyOf t (i - 1) < keyOf t i) → notAbove t i ≡ false
+order-ok t zero f = first-above t
+order-ok t (suc i) f =
+    let e : suc i - 1 ≡ i = omega arith in
+    above t i .1 (rw e at (f (omega arith)))
+
+-- a language below 0x8000 plus the tag count, of which format 0 has none
+pub language-below : (t : List ℕ) (i : ℕ) → language t i < 32768 + tagCount t → languageRefused (format t) (tagCount t) (platform t i) (language t i) ≡ false
+language-below t i h = side (decLt (language t i) 32768) (ℕ-discrete (format t) 0)
+  where
+    side : Dec (language t i < 32768) → Dec (format t ≡ 0) → languageRefused (format t) (tagCount t) (platform t i) (language t i) ≡ false
+    side (yes l) f = language-plain _ _ _ _ l
+    side (no l) (yes f) = absurd (omega (arith, format-0 t f))
+    side (no l) (no f) = let g : 32768 ≤ language t i = omega arith in language-1 _ _ _ _ f g .1 h
+
 -- none of 15, 18, 17
 pub record Sound (t : List ℕ) (i : ℕ) : Type 0 where
   pub string : stringEnd t (textAt i) ≤ length t
@@ -168,6 +185,11 @@ record-accepted t i = (
         ),
       ),
 )
+
+-- both quick passes together leave no record's fault
+pub quick : (t : List ℕ) (n : ℕ) → FitAndRise t n → LanguagesFit t n → firstOf (recordFault t) n ≡ Accepted
+quick t n f g =
+    first-accepted _ _ .1 (λ i h. record-accepted t i .1 (record { string = string-fits t (textAt i) .0 (f i h .0); language = g i h; order = f i h .1 }))
 
 -- none of 10 to 18
 pub record Checked (t : List ℕ) : Type 0 where
@@ -200,3 +222,7 @@ module _ (t : List ℕ) where
   -- each key of an accepted table is above the one before it
   pub keys-rise : checkOf t ≡ Accepted → (i : ℕ) → suc i < count t → keyOf t i < keyOf t (suc i)
   keys-rise e i h = above t i .0 (check-accepted .0 e .records (suc i) h .order)
+
+  -- the records of an accepted table lie within it
+  pub record-inside : checkOf t ≡ Accepted → (i : ℕ) → i < count t → recordAt i + 12 ≤ length t
+  record-inside e i h = omega (arith, check-accepted .0 e .laid .records)

@@ -1,7 +1,8 @@
 -- Document 01, "Order", for 'name': "10, 11, 12, 13, 14; then records from 0 upward, at each 15, 18, 17; then tags from 0 upward, 16".
-use Prim.Native.Nat.{ℕ, zero, suc, _+_, _-_, _≤_}
+use Prim.Native.Nat.{ℕ, zero, suc, _+_, _-_, _≤_, _<_}
+use mathlib.Core.Path.{_≡_}
 use mathlib.Core.List.{List}
-use mathlib.Core.Bool.{Bool, cond, _&&_, _||_}
+use mathlib.Core.Bool.{Bool, false, cond, _&&_, _||_}
 use lib.ListN.{length}
 use lib.Dec.{ltb, leb, eqb}
 use Rattle.name.specs.Layout.{format, count, storage, platform, language, textAt, recordsEnd, tagCount, tagAt, tagsEnd, stringEnd, keyOf}
@@ -79,3 +80,10 @@ pub record Framed (t : List ℕ) : Type 0 where
   pub front : 6 ≤ length t
   pub records : recordsEnd t ≤ length t
   pub tags : tagsEnd t ≤ length t
+
+-- what the two quick passes show of the first n records
+abbrev pub FitAndRise : List ℕ → ℕ → Type 0
+FitAndRise t n = (i : ℕ) → i < n → (stringPasses t (textAt i) ≡ false) × (notAbove t i ≡ false)
+
+abbrev pub LanguagesFit : List ℕ → ℕ → Type 0
+LanguagesFit t n = (i : ℕ) → i < n → languageRefused (format t) (tagCount t) (platform t i) (language t i) ≡ false

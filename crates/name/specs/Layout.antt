@@ -4,6 +4,7 @@ use mathlib.Core.List.{List}
 use mathlib.Core.Bool.{cond}
 use lib.Dec.{eqb}
 use Rattle.bigendian.specs.Numbers.{number}
+use Rattle.name.specs.declared.Text.{Text}
 
 -- "Format, count, storage start: three 16-bit numbers."
 abbrev pub format : List ℕ → ℕ
@@ -60,6 +61,10 @@ stringStart t at = storage t + number 2 t (at + 2)
 
 abbrev pub stringEnd : List ℕ → ℕ → ℕ
 stringEnd t at = stringStart t at + stringLength t at
+
+-- "Lookup gives the string's start, from the table's first byte, and its length"
+unfoldable pub textOf : List ℕ → ℕ → Text
+textOf t i = record { start = stringStart t (textAt i); len = stringLength t (textAt i) }
 
 -- "The key is platform, encoding, language, name, compared in that order": the four numbers as the digits of one
 abbrev pub keyNumber : ℕ → ℕ → ℕ → ℕ → ℕ

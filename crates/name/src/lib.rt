@@ -4,9 +4,9 @@ ghost use mathlib.Core.Path.{_≡_};
 ghost use mathlib.Core.Bool.{true, false};
 ghost use Prim.Native.Nat.{ℕ, _+_, _*_, _≤_, _<_};
 ghost use lib.ListN.{length};
-ghost use Rattle.name.specs.Layout.{format, count, storage, recordAt, recordsEnd, tagCount, tagsAt, tagsEnd, keyNumber, keyOf};
+ghost use Rattle.name.specs.Layout.{format, count, storage, recordAt, recordsEnd, tagCount, tagsAt, tagsEnd, keyNumber, keyOf, textOf};
 ghost use Rattle.name.specs.Refusals.{numberOf, placeOf};
-ghost use Rattle.name.specs.Acceptance.{firstOf, tagsPass, misplaced, stringPasses, languageRefused, notAbove, layoutFault, recordFault, tagFault, checkOf, Framed};
+ghost use Rattle.name.specs.Acceptance.{firstOf, tagsPass, misplaced, stringPasses, languageRefused, notAbove, layoutFault, recordFault, tagFault, checkOf, Framed, FitAndRise, LanguagesFit};
 use bigendian::read_u16;
 
 // Why a table is refused, with the record or the tag that is at fault.
@@ -41,6 +41,12 @@ pub enum Place {
 pub enum Verdict {
     Accepted,
     Refused(Refusal),
+}
+
+// A string's start, from the table's first byte, and its length.
+pub struct Text {
+    pub start: usize,
+    pub len: usize,
 }
 
 impl Refusal {
@@ -114,8 +120,67 @@ fn layout_fault(table: &[u8]) -> Verdict
     Verdict::Accepted
 }
 
-// The first fault of the records.
+// The first fault of the records: none where both quick passes hold, else the exact pass says.
 fn record_faults(table: &[u8]) -> Verdict
+    requires { ⌜ Framed (now table) ⌝ }
+    ensures { λ r. ⌜ r ≡ firstOf (recordFault (now (table .entry))) (count (now (table .entry))) ⌝ }
+{
+    if fit_and_rise(table) {
+        if languages_below(table) {
+            return Verdict::Accepted;
+        }
+    }
+    exact_faults(table)
+}
+
+// Whether each record's string ends within the table and each key is above the one before it.
+fn fit_and_rise(table: &[u8]) -> bool
+    requires { ⌜ Framed (now table) ⌝ }
+    ensures { λ r. ⌜ (r ≡ true → FitAndRise (now (table .entry)) (count (now (table .entry)))) ⌝ }
+{
+    let count = record_count(table) as usize;
+    let mut last = 0;
+    let mut i = 0;
+    while i < count {
+        if string_passes(table, 6 + 12 * i + 8) {
+            return false;
+        }
+        let here = key_at(table, i);
+        if sinks(i, last, here) {
+            return false;
+        }
+        last = here;
+        i += 1;
+    }
+    true
+}
+
+// Whether record i, but for the first, has a key that is not above the one before it.
+fn sinks(i: usize, last: u64, here: u64) -> bool
+    ensures { λ r. ⌜ (r ≡ false → 0 < i → last < here) ⌝ }
+{
+    0 < i && here <= last
+}
+
+// Whether each language is below 0x8000 plus the number of tags, which no format and no platform refuses.
+fn languages_below(table: &[u8]) -> bool
+    requires { ⌜ Framed (now table) ⌝ }
+    ensures { λ r. ⌜ (r ≡ true → LanguagesFit (now (table .entry)) (count (now (table .entry)))) ⌝ }
+{
+    let count = record_count(table) as usize;
+    let limit = 32768 + tag_count(table) as u32;
+    let mut i = 0;
+    while i < count {
+        if limit <= read_u16(table, 6 + 12 * i + 4) as u32 {
+            return false;
+        }
+        i += 1;
+    }
+    true
+}
+
+// The first fault of the records, by looking at each in turn.
+fn exact_faults(table: &[u8]) -> Verdict
     requires { ⌜ Framed (now table) ⌝ }
     ensures { λ r. ⌜ r ≡ firstOf (recordFault (now (table .entry))) (count (now (table .entry))) ⌝ }
 {
@@ -264,7 +329,7 @@ fn records_end(table: &[u8]) -> usize
 }
 
 // The number of language tags, none in format 0.
-pub fn tag_count(table: &[u8]) -> u16
+fn tag_count(table: &[u8]) -> u16
     requires { ⌜ Framed (now table) ⌝ }
     ensures { λ r. ⌜ r ≡ tagCount (now (table .entry)) ⌝ }
 {
@@ -275,7 +340,7 @@ pub fn tag_count(table: &[u8]) -> u16
 }
 
 // Where the language tags start.
-pub fn tags_start(table: &[u8]) -> usize
+fn tags_start(table: &[u8]) -> usize
     requires { ⌜ 6 ≤ length (now table) ⌝ }
     ensures { λ r. ⌜ r ≡ tagsAt (now (table .entry)) ⌝ }
 {
@@ -304,4 +369,16 @@ pub fn key_at(table: &[u8], i: usize) -> u64
         read_u16(table, at + 4),
         read_u16(table, at + 6),
     )
+}
+
+// The string of record i.
+pub fn text_of(table: &[u8], i: usize) -> Text
+    requires { ⌜ recordAt i + 12 ≤ length (now table) ⌝ }
+    ensures { λ r. ⌜ r ≡ textOf (now (table .entry)) i ⌝ }
+{
+    let at = 6 + 12 * i + 8;
+    Text {
+        start: storage_start(table) as usize + read_u16(table, at + 2) as usize,
+        len: read_u16(table, at) as usize,
+    }
 }

@@ -8,10 +8,10 @@ use Rattle.name.specs.declared.Refusal.{Refusal}
 use Rattle.name.specs.declared.Place.{Place}
 use Rattle.name.specs.declared.Place.the-variants.{Nowhere, At}
 use Rattle.name.specs.declared.Verdict.the-variants as verdict
-use Rattle.name.specs.Layout.{count, keyNumber, keyOf}
+use Rattle.name.specs.Layout.{count, keyNumber, keyOf, textOf}
 use Rattle.name.specs.Acceptance.{checkOf}
 use Rattle.name_lookup.specs.declared.Answer.the-variants.{Found, NoRecord, Refused}
-use Rattle.name_lookup.specs.Answers.{recordOf, textOf, answerOf, afterCheck, lookupOf}
+use Rattle.name_lookup.specs.Answers.{recordOf, answerOf, afterCheck, lookupOf}
 use Rattle.name_lookup.proofs.Halvings.{scan-in}
 
 module _ (t : List ℕ) (p e l n : ℕ) where

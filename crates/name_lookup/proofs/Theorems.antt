@@ -10,7 +10,7 @@ use Rattle.name.specs.declared.Place.{Place}
 use Rattle.name.specs.declared.Place.the-variants.{Nowhere, At}
 use Rattle.name.specs.declared.Verdict.{Verdict}
 use Rattle.name.specs.declared.Verdict.the-variants as verdict
-use Rattle.name.specs.Layout.{count, recordAt, keyNumber, keyOf, textAt, stringStart, stringLength}
+use Rattle.name.specs.Layout.{count, recordAt, keyNumber, keyOf, textOf, textAt, stringStart, stringLength}
 use Rattle.name.specs.Acceptance.{checkOf}
 use Rattle.name.specs.Acceptable.{Acceptable}
 use Rattle.name.specs.Refusals.{numberOf}
@@ -23,7 +23,7 @@ use Rattle.name_lookup.specs.declared.Answer.{Answer}
 use Rattle.name_lookup.specs.declared.Answer.the-variants.{Found, NoRecord}
 use Rattle.name_lookup.specs.declared.Numbered.{Numbered}
 use Rattle.name_lookup.specs.declared.Numbered.the-variants.{Text, Refusal}
-use Rattle.name_lookup.specs.Answers.{recordOf, textOf, lookupOf, said}
+use Rattle.name_lookup.specs.Answers.{recordOf, lookupOf, said}
 use Rattle.name_lookup.specs.Exactly.{HasKey, FoundExactlyWhen, MissingExactlyWhen, WithinStorage}
 use Rattle.name_lookup.proofs.Halvings.{rising, scan-found, scan-none}
 use Rattle.name_lookup.proofs.Lookups.{record-in, lookup-refused, lookup-at, lookup-none}

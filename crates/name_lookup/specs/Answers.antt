@@ -1,14 +1,13 @@
 -- Document 01, "Lookup gives the string's start, from the table's first byte, and its length", and refusal 20.
 use Prim.Native.Nat.{ℕ}
 use mathlib.Core.List.{List}
-use Rattle.name.specs.Layout.{count, textAt, stringStart, stringLength, keyNumber, keyOf}
+use Rattle.name.specs.Layout.{count, keyNumber, keyOf, textOf}
 use Rattle.name.specs.Refusals.{numberOf, placeOf}
 use Rattle.name.specs.Acceptance.{checkOf}
 use Rattle.name.specs.declared.Place.{Place}
 use Rattle.name.specs.declared.Place.the-variants.{Nowhere, At}
 use Rattle.name.specs.declared.Verdict.{Verdict}
 use Rattle.name.specs.declared.Verdict.the-variants as verdict
-use Rattle.name_lookup.specs.declared.Text.{Text}
 use Rattle.name_lookup.specs.declared.Answer.{Answer}
 use Rattle.name_lookup.specs.declared.Answer.the-variants.{Found, NoRecord, Refused}
 use Rattle.name_lookup.specs.declared.Numbered.{Numbered}
@@ -18,10 +17,6 @@ use Rattle.name_lookup.specs.Scans.{scan}
 -- the record that has the four numbers, if there is one
 unfoldable pub recordOf : List ℕ → ℕ → ℕ → ℕ → ℕ → Place
 recordOf t platform encoding language name = scan (keyOf t) (keyNumber platform encoding language name) (count t)
-
--- the string of a record
-unfoldable pub textOf : List ℕ → ℕ → Text
-textOf t i = record { start = stringStart t (textAt i); len = stringLength t (textAt i) }
 
 -- 20: "no record has the key"
 unfoldable pub answerOf : List ℕ → Place → Answer

@@ -2,20 +2,12 @@
 // Document 01, "Lookup gives the string's start, from the table's first byte, and its length", and refusal 20.
 // It relies on the table's check: the records of an accepted table are in the order of their keys.
 ghost use mathlib.Core.Path.{_≡_};
-ghost use Prim.Native.Nat.{ℕ, _<_};
-ghost use Rattle.name.specs.Layout.{count};
 ghost use Rattle.name.specs.Acceptance.{checkOf};
-ghost use Rattle.name_lookup.specs.Answers.{recordOf, textOf, answerOf, lookupOf, said};
-use bigendian::read_u16;
+ghost use Rattle.name_lookup.specs.Answers.{recordOf, lookupOf, said};
 use name::Place;
 use name::Refusal;
+use name::Text;
 use name::Verdict;
-
-// A string's start, from the table's first byte, and its length.
-pub struct Text {
-    pub start: usize,
-    pub len: usize,
-}
 
 pub enum Answer {
     // The string of the record that has the key.
@@ -54,7 +46,7 @@ pub fn lookup(table: &[u8], platform: u16, encoding: u16, language: u16, name: u
         return Answer::Refused(r);
     }
     match find(table, platform, encoding, language, name) {
-        Place::At(i) => Answer::Found(text_of(table, i)),
+        Place::At(i) => Answer::Found(name::text_of(table, i)),
         Place::Nowhere => Answer::NoRecord,
     }
 }
@@ -80,16 +72,4 @@ pub fn find(table: &[u8], platform: u16, encoding: u16, language: u16, name: u16
         }
     }
     Place::Nowhere
-}
-
-// The string of record i of an accepted table.
-pub fn text_of(table: &[u8], i: usize) -> Text
-    requires { ⌜ (checkOf (now table) ≡ Verdict.Accepted) × (i < count (now table)) ⌝ }
-    ensures { λ r. ⌜ r ≡ textOf (now (table .entry)) i ⌝ }
-{
-    let at = 6 + 12 * i + 8;
-    Text {
-        start: name::storage_start(table) as usize + read_u16(table, at + 2) as usize,
-        len: read_u16(table, at) as usize,
-    }
 }

@@ -1,66 +1,30 @@
+use mathlib.Core.Path.{sym}
+use Rattle.name.proofs.Acceptances.{quick}
 use borrow.Author.Needs.{needs}
-use Prim.Native.Nat.{_≤_, _-_}
-use mathlib.Core.Path.{_≡_, sym}
-use native.Mathlib.Omega.{arith}
-use Rattle.name.specs.Acceptance.{firstOf, recordFault}
-use Rattle.name.specs.declared.Verdict.the-variants.{Accepted}
-use Rattle.name.proofs.Firsts.{first-none, first-more, first-stop}
 use Rattle.name.proofs.record_faults.Statement.{statement}
 use Rattle.name.proofs.record_faults.Tie as tie
 
-abbrev Inv-loop : tie.InvT-loop
-Inv-loop table count i₀ i = (i ≤ count) × (firstOf (recordFault table) i ≡ Accepted)
+fit-and-rise-requires : tie.Need-fit-and-rise-requires
+fit-and-rise-requires c κs = search needs
 
-abbrev μ-loop : tie.MeasureT-loop
-μ-loop table count i₀ i = count - i
+languages-below-requires : tie.Need-languages-below-requires
+languages-below-requires c κs = search needs
 
-record-count-requires : tie.Need-record-count-requires Inv-loop μ-loop
-record-count-requires c κs = search needs
+returns : tie.Need-returns
+returns c = sym (quick _ _ (c .before .before .before .fit-and-rise .ensures (c .before .before .if1 .taken)) (c .before .languages-below .ensures (c .if2 .taken)))
 
-cast-count : tie.Need-cast-count Inv-loop μ-loop
-cast-count c = search needs
+exact-faults-requires : tie.Need-exact-faults-requires
+exact-faults-requires c κs = search needs
 
-loop-holds : tie.Need-loop-holds Inv-loop μ-loop
-loop-holds c = (search needs, first-none _)
-
-record-fault-requires : tie.Need-record-fault-requires Inv-loop μ-loop
-record-fault-requires c κs = search needs
-
-enum-known-r : tie.Need-enum-known-r Inv-loop μ-loop
-enum-known-r c = search needs
-
-returns : tie.Need-returns Inv-loop μ-loop
-returns c = let at = c .before .before .before .before .before in sym (first-stop _ (at .loop .i) _ (omega arith) (at .loop .inv .1) (cc))
-
-enum-told : tie.Need-enum-told Inv-loop μ-loop
-enum-told c = search needs
-
-add-i : tie.Need-add-i Inv-loop μ-loop
-add-i c = search needs
-
-loop-less : tie.Need-loop-less Inv-loop μ-loop
-loop-less c = search needs
-
-loop-again : tie.Need-loop-again Inv-loop μ-loop
-loop-again c = (search needs, first-more _ _ (c .before .before .before .before .loop .inv .1) (cc))
-
-returns-2 : tie.Need-returns-2 Inv-loop μ-loop
-returns-2 c = let end : c .before .loop .i ≡ c .before .before .record-count .result = omega arith in let all = rw end at (c .before .loop .inv .1) in cc
+returns-2 : tie.Need-returns-2
+returns-2 c = search needs
 
 pub record-faults-spec : {M : Type 1} → statement M
 record-faults-spec =
     tie.close
     (tie.spec
-    Inv-loop
-    μ-loop
-    record-count-requires
-    cast-count
-    loop-holds
-    record-fault-requires
-    enum-known-r
+    fit-and-rise-requires
+    languages-below-requires
     returns
-    enum-told
-    add-i
-    loop-less
-    loop-again
+    exact-faults-requires
     returns-2)

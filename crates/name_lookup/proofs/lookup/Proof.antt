@@ -1,3 +1,4 @@
+use Rattle.name.proofs.Acceptances.{record-inside}
 use mathlib.Core.Path.{_≡_, sym}
 use denote.Ref.{now}
 use Rattle.name.specs.Acceptance.{checkOf}
@@ -35,7 +36,7 @@ enum-known-i : tie.Need-enum-known-i
 enum-known-i c = search needs
 
 text-of-requires : tie.Need-text-of-requires
-text-of-requires c κs = (accepted (c .before .before .before .before), record-in _ _ _ _ _ (c .before .before .before .find .ensures) (at c) .0)
+text-of-requires c κs = record-inside _ (accepted (c .before .before .before .before)) _ (record-in _ _ _ _ _ (c .before .before .before .find .ensures) (at c) .0)
 
 enum-told-2 : tie.Need-enum-told-2
 enum-told-2 c = search needs

@@ -1,34 +1,28 @@
-use denote.Ref.{now}
-use native.Mathlib.Omega.{arith}
-use Rattle.name.proofs.Acceptances.{Laid, check-accepted}
-use Rattle.name_lookup.specs.Answers.{textOf}
+use Rattle.name.specs.Layout.{textOf}
 use borrow.Author.Needs.{needs}
-use Rattle.name_lookup.proofs.text_of.Statement.{statement}
-use Rattle.name_lookup.proofs.text_of.Tie as tie
-
-laid : (c : tie.Start) → Laid (now (c .args .table))
-laid c = check-accepted _ .0 (c .pre .0) .laid
+use Rattle.name.proofs.text_of.Statement.{statement}
+use Rattle.name.proofs.text_of.Tie as tie
 
 mul-at : tie.Need-mul-at
-mul-at c = omega (arith, laid (c .before))
+mul-at c = search needs
 
 add-at : tie.Need-add-at
-add-at c = omega (arith, laid (c .before))
+add-at c = search needs
 
 add-at-2 : tie.Need-add-at-2
-add-at-2 c = omega (arith, laid (c .before))
+add-at-2 c = search needs
 
 storage-start-requires : tie.Need-storage-start-requires
-storage-start-requires c κs = laid (c .before) .front
+storage-start-requires c κs = search needs
 
 cast-t4 : tie.Need-cast-t4
 cast-t4 c = search needs
 
 add-read-u16 : tie.Need-add-read-u16
-add-read-u16 c = omega (arith, laid (c .before .before))
+add-read-u16 c = search needs
 
 read-u16-requires : tie.Need-read-u16-requires
-read-u16-requires c κs = omega (arith, laid (c .before .before))
+read-u16-requires c κs = search needs
 
 cast-t8 : tie.Need-cast-t8
 cast-t8 c = search needs
@@ -37,7 +31,7 @@ add-t9 : tie.Need-add-t9
 add-t9 c = search needs
 
 read-u16-requires-2 : tie.Need-read-u16-requires-2
-read-u16-requires-2 c κs = omega (arith, laid (c .before .before .before))
+read-u16-requires-2 c κs = search needs
 
 cast-t11 : tie.Need-cast-t11
 cast-t11 c = search needs
