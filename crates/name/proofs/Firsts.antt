@@ -3,7 +3,7 @@
 use Prim.Native.Nat.{ℕ, zero, suc, _+_, _<_}
 use mathlib.Core.Path.{_≡_, refl}
 use mathlib.Core.Logic.{_↔_, ⊎-elim}
-use mathlib.Core.Bool.{Bool, true, false, _||_}
+use mathlib.Core.Bool.{Bool, true, false}
 use native.Mathlib.Nat.{not-suc-le-zero, le-of-suc-le-suc, eq-or-lt-of-le}
 use native.Mathlib.Numerals.{add-one}
 use native.Mathlib.Omega.{arith}
@@ -22,6 +22,13 @@ pub when-accepted : (test : Bool) (r : Refusal) → (when test r ≡ Accepted) �
 unfolding when
 when-accepted false r = (λ e. refl, λ e. refl)
 when-accepted true r = (λ e. let z : _≡_ {A = ℕ} 0 1 = cc in absurd (omega arith), λ e. let z : _≡_ {A = ℕ} 0 1 = cc in absurd (omega arith))
+
+-- past a refusal: its test does not hold, and what follows accepts
+pub passed : (test : Bool) (r : Refusal) (v : Verdict) → ((when test r then v) ≡ Accepted) ↔ ((test ≡ false) × (v ≡ Accepted))
+passed test r v = (
+  λ e. let p = then-accepted (when test r) v .0 e in (when-accepted test r .0 (p .0), p .1),
+  λ p. then-accepted (when test r) v .1 (when-accepted test r .1 (p .0), p .1),
+)
 
 module _ (f : ℕ → Verdict) where
   pub first-none : firstOf f 0 ≡ Accepted

@@ -3,18 +3,15 @@
 use Prim.Native.Nat.{ℕ, _+_, _<_, _≤_}
 use mathlib.Core.Path.{_≡_}
 use mathlib.Core.List.{List}
-use mathlib.Core.Bool.{false}
 use native.Mathlib.Decide.{ℕ-discrete}
 use native.Mathlib.Omega.{arith}
 use borrow.Author.Needs.{needs}
-use lib.ListN.{length}
-use borrow.Author.Tests.{ltb-false, lt-ltb, le-ltb, le-leb, lt-leb, eq-eqb, ne-eqb}
+use borrow.Author.Tests.{lt-ltb, le-ltb, le-leb, lt-leb, eq-eqb, ne-eqb}
 use Rattle.bigendian.specs.Numbers.{number}
 use Rattle.name.specs.declared.Refusal.{Refusal}
 use Rattle.name.specs.declared.Refusal.the-variants.{TooShort, UnknownFormat, RecordsPastEnd, TagsPastEnd, StorageMisplaced, RecordString, TagString, KeyNotAbove, LanguageRefused}
 use Rattle.name.specs.Refusals.{numberOf}
 use Rattle.name.specs.Layout.{format, recordsEnd, tagCount, tagsAt}
-use Rattle.name.specs.Acceptance.{tagsPass, Framed}
 
 module _ (t : List ℕ) where
   pub format-0 : format t ≡ 0 → (tagCount t ≡ 0) × (tagsAt t ≡ recordsEnd t)
@@ -32,11 +29,6 @@ module _ (t : List ℕ) where
       side : Dec (format t ≡ 0) → recordsEnd t ≤ tagsAt t
       side (yes e) = omega (arith, format-0 e)
       side (no e) = omega (arith, format-1 e)
-
-  -- what the layout's refusals leave
-  pub framed : 6 ≤ length t → recordsEnd t ≤ length t → tagsPass t ≡ false → Framed t
-  unfolding tagsPass
-  framed l r p = record { front = l; records = r; tags = ltb-false _ _ p }
 
 -- the numbers are 10 to 18
 pub number-most : (r : Refusal) → numberOf r ≤ 18

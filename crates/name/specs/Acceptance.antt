@@ -26,7 +26,19 @@ unfoldable pub firstOf : (ℕ → Verdict) → ℕ → Verdict
 firstOf f zero = Accepted
 firstOf f (suc n) = firstOf f n then f n
 
--- 13: "tag count or tag records pass the end"; in format 0 there are none
+-- 10: "'name' under 6 bytes"
+unfoldable pub tooShort : List ℕ → Bool
+tooShort t = ltb (length t) 6
+
+-- 11: "format neither 0 nor 1"
+unfoldable pub otherFormat : List ℕ → Bool
+otherFormat t = ltb 1 (format t)
+
+-- 12: "name records pass the table's end"
+unfoldable pub recordsPass : List ℕ → Bool
+recordsPass t = ltb (length t) (recordsEnd t)
+
+-- 13: "tag count or tag records pass the end"; format 0 has none
 unfoldable pub tagsPass : List ℕ → Bool
 tagsPass t = ltb (length t) (tagsEnd t)
 
@@ -51,9 +63,9 @@ notAbove t i = ltb 0 i && leb (keyOf t i) (keyOf t (i - 1))
 -- "10, 11, 12, 13, 14"
 unfoldable pub layoutFault : List ℕ → Verdict
 layoutFault t =
-    when (ltb (length t) 6) TooShort
-    then when (ltb 1 (format t)) UnknownFormat
-    then when (ltb (length t) (recordsEnd t)) RecordsPastEnd
+    when (tooShort t) TooShort
+    then when (otherFormat t) UnknownFormat
+    then when (recordsPass t) RecordsPastEnd
     then when (tagsPass t) TagsPastEnd
     then when (misplaced t) StorageMisplaced
 

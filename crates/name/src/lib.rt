@@ -6,7 +6,7 @@ ghost use Prim.Native.Nat.{ℕ, _+_, _*_, _≤_, _<_};
 ghost use lib.ListN.{length};
 ghost use Rattle.name.specs.Layout.{format, count, storage, recordAt, recordsEnd, tagCount, tagsAt, tagsEnd, keyNumber, keyOf, textOf};
 ghost use Rattle.name.specs.Refusals.{numberOf, placeOf};
-ghost use Rattle.name.specs.Acceptance.{firstOf, tagsPass, misplaced, stringPasses, languageRefused, notAbove, layoutFault, recordFault, tagFault, checkOf, Framed, FitAndRise, LanguagesFit};
+ghost use Rattle.name.specs.Acceptance.{firstOf, tooShort, otherFormat, recordsPass, tagsPass, misplaced, stringPasses, languageRefused, notAbove, layoutFault, recordFault, tagFault, checkOf, Framed, FitAndRise, LanguagesFit};
 use bigendian::read_u16;
 
 // Why a table is refused, with the record or the tag that is at fault.
@@ -102,13 +102,13 @@ pub fn check(table: &[u8]) -> Verdict
 fn layout_fault(table: &[u8]) -> Verdict
     ensures { λ r. ⌜ r ≡ layoutFault (now (table .entry)) ⌝ }
 {
-    if table.len() < 6 {
+    if too_short(table) {
         return Verdict::Refused(Refusal::TooShort);
     }
-    if 1 < format_number(table) {
+    if other_format(table) {
         return Verdict::Refused(Refusal::UnknownFormat);
     }
-    if table.len() < records_end(table) {
+    if records_pass(table) {
         return Verdict::Refused(Refusal::RecordsPastEnd);
     }
     if tags_pass(table) {
@@ -240,6 +240,29 @@ fn tag_fault(table: &[u8], i: usize) -> Verdict
         return Verdict::Refused(Refusal::TagString(i));
     }
     Verdict::Accepted
+}
+
+// Whether the table ends before its three first numbers do.
+fn too_short(table: &[u8]) -> bool
+    ensures { λ r. ⌜ r ≡ tooShort (now (table .entry)) ⌝ }
+{
+    table.len() < 6
+}
+
+// Whether the format is neither 0 nor 1.
+fn other_format(table: &[u8]) -> bool
+    requires { ⌜ 6 ≤ length (now table) ⌝ }
+    ensures { λ r. ⌜ r ≡ otherFormat (now (table .entry)) ⌝ }
+{
+    1 < format_number(table)
+}
+
+// Whether the name records pass the table's end.
+fn records_pass(table: &[u8]) -> bool
+    requires { ⌜ 6 ≤ length (now table) ⌝ }
+    ensures { λ r. ⌜ r ≡ recordsPass (now (table .entry)) ⌝ }
+{
+    table.len() < records_end(table)
 }
 
 // Whether the tag count or the tags pass the table's end.

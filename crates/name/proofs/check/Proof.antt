@@ -2,7 +2,7 @@ use denote.Ref.{now}
 use Rattle.name.specs.Acceptance.{layoutFault, checkOf, _then_}
 use mathlib.Core.Path.{_≡_}
 use Rattle.name.specs.declared.Verdict.the-variants.{Accepted, Refused}
-use Rattle.name.proofs.Acceptances.{layout-frames}
+use Rattle.name.proofs.Acceptances.{layout-accepted, framed}
 use borrow.Author.Needs.{needs}
 use Rattle.name.proofs.check.Statement.{statement}
 use Rattle.name.proofs.check.Tie as tie
@@ -25,7 +25,7 @@ laid : (c : tie.After-enum-told) → layoutFault (now (c .before .before .before
 laid c = cc
 
 record-faults-requires : tie.Need-record-faults-requires
-record-faults-requires c κs = layout-frames _ (laid c)
+record-faults-requires c κs = framed _ (layout-accepted _ .0 (laid c))
 
 enum-known-r-2 : tie.Need-enum-known-r-2
 enum-known-r-2 c = search needs
@@ -38,7 +38,7 @@ enum-told-2 : tie.Need-enum-told-2
 enum-told-2 c = search needs
 
 tag-faults-requires : tie.Need-tag-faults-requires
-tag-faults-requires c κs = layout-frames _ (laid (c .before .before .before))
+tag-faults-requires c κs = framed _ (layout-accepted _ .0 (laid (c .before .before .before)))
 
 returns-3 : tie.Need-returns-3
 unfolding checkOf _then_

@@ -1,58 +1,68 @@
-use borrow.Author.Tests.{lt-ltb, le-ltb}
-use Rattle.name.specs.Acceptance.{layoutFault, _then_, when}
-use Rattle.name.proofs.Layouts.{framed}
-use native.Mathlib.Omega.{arith}
+-- Each test on the way settles its line of the definition; what a test leaves is what the next one needs.
+-- Assumes nothing.
+use mathlib.Core.Path.{_≡_}
+use mathlib.Core.Bool.{false}
+use denote.Ref.{now}
 use borrow.Author.Needs.{needs}
+use Rattle.name.specs.Acceptance.{tooShort, otherFormat, recordsPass, tagsPass, layoutFault, _then_, when}
+use Rattle.name.proofs.Acceptances.{long, records-within, tags-within}
 use Rattle.name.proofs.layout_fault.Statement.{statement}
 use Rattle.name.proofs.layout_fault.Tie as tie
 
+short : (c : tie.Else1) → tooShort (now (c .before .before .before .args .table)) ≡ false
+short c = cc
+
+known : (c : tie.Else2) → otherFormat (now (c .before .before .before .before .before .args .table)) ≡ false
+known c = cc
+
+records : (c : tie.Else3) → recordsPass (now (c .before .before .before .before .before .before .before .args .table)) ≡ false
+records c = cc
+
+tags : (c : tie.Else4) → tagsPass (now (c .before .before .before .before .before .before .before .before .before .args .table)) ≡ false
+tags c = cc
+
+too-short-requires : tie.Need-too-short-requires
+too-short-requires c κs = search needs
+
 returns : tie.Need-returns
 unfolding layoutFault _then_ when
-returns c = simp (lt-ltb _ _ (c .if1 .taken))
+returns c = simp (← c .before .too-short .ensures, c .if1 .taken)
 
-format-number-requires : tie.Need-format-number-requires
-format-number-requires c κs = search needs
+other-format-requires : tie.Need-other-format-requires
+other-format-requires c κs = long _ (short c)
 
 returns-2 : tie.Need-returns-2
 unfolding layoutFault _then_ when
-returns-2 c = simp (le-ltb _ _ (c .before .before .if1 .left), ← c .before .format-number .ensures, lt-ltb _ _ (c .if2 .taken))
+returns-2 c = simp (short (c .before .before), ← c .before .other-format .ensures, c .if2 .taken)
 
-records-end-requires : tie.Need-records-end-requires
-records-end-requires c κs = search needs
+records-pass-requires : tie.Need-records-pass-requires
+records-pass-requires c κs = long _ (short (c .before .before))
 
 returns-3 : tie.Need-returns-3
 unfolding layoutFault _then_ when
-returns-3 c = simp (le-ltb _ _ (c .before .before .before .before .if1 .left), ← c .before .before .before .format-number .ensures, le-ltb _ _ (c .before .before .if2 .left), ← c .before .records-end .ensures, lt-ltb _ _ (c .if3 .taken))
+returns-3 c = simp (short (c .before .before .before .before), known (c .before .before), ← c .before .records-pass .ensures, c .if3 .taken)
 
 tags-pass-requires : tie.Need-tags-pass-requires
-tags-pass-requires c κs = search needs
+tags-pass-requires c κs = (long _ (short (c .before .before .before .before)), records-within _ (records c))
 
 returns-4 : tie.Need-returns-4
 unfolding layoutFault _then_ when
-returns-4 c = simp (le-ltb _ _ (c .before .before .before .before .before .before .if1 .left), ← c .before .before .before .before .before .format-number .ensures, le-ltb _ _ (c .before .before .before .before .if2 .left), ← c .before .before .before .records-end .ensures, le-ltb _ _ (c .before .before .if3 .left), ← c .before .tags-pass .ensures, c .if4 .taken)
+returns-4 c = simp (short (c .before .before .before .before .before .before), known (c .before .before .before .before), records (c .before .before), ← c .before .tags-pass .ensures, c .if4 .taken)
 
 storage-misplaced-requires : tie.Need-storage-misplaced-requires
-storage-misplaced-requires c κs = framed _ (omega arith) (omega arith) (cc)
+storage-misplaced-requires c κs = record {
+  front = long _ (short (c .before .before .before .before .before .before));
+  records = records-within _ (records (c .before .before));
+  tags = tags-within _ (tags c);
+}
 
 returns-5 : tie.Need-returns-5
 unfolding layoutFault _then_ when
-returns-5 c = simp (le-ltb _ _ (c .before .before .before .before .before .before .before .before .if1 .left), ← c .before .before .before .before .before .before .before .format-number .ensures, le-ltb _ _ (c .before .before .before .before .before .before .if2 .left), ← c .before .before .before .before .before .records-end .ensures, le-ltb _ _ (c .before .before .before .before .if3 .left), ← c .before .before .before .tags-pass .ensures, c .before .before .if4 .left, ← c .before .storage-misplaced .ensures, c .if5 .taken)
+returns-5 c = simp (short (c .before .before .before .before .before .before .before .before), known (c .before .before .before .before .before .before), records (c .before .before .before .before), tags (c .before .before), ← c .before .storage-misplaced .ensures, c .if5 .taken)
 
 returns-6 : tie.Need-returns-6
 unfolding layoutFault _then_ when
-returns-6 c = simp (le-ltb _ _ (c .before .before .before .before .before .before .before .before .if1 .left), ← c .before .before .before .before .before .before .before .format-number .ensures, le-ltb _ _ (c .before .before .before .before .before .before .if2 .left), ← c .before .before .before .before .before .records-end .ensures, le-ltb _ _ (c .before .before .before .before .if3 .left), ← c .before .before .before .tags-pass .ensures, c .before .before .if4 .left, ← c .before .storage-misplaced .ensures, c .if5 .left)
+returns-6 c = simp (short (c .before .before .before .before .before .before .before .before), known (c .before .before .before .before .before .before), records (c .before .before .before .before), tags (c .before .before), ← c .before .storage-misplaced .ensures, c .if5 .left)
 
 pub layout-fault-spec : {M : Type 1} → statement M
-layout-fault-spec =
-    tie.close
-    (tie.spec
-    returns
-    format-number-requires
-    returns-2
-    records-end-requires
-    returns-3
-    tags-pass-requires
-    returns-4
-    storage-misplaced-requires
-    returns-5
-    returns-6)
+layout-fault-spec = tie.close (tie.spec too-short-requires returns other-format-requires returns-2 records-pass-requires returns-3 tags-pass-requires returns-4 storage-misplaced-requires returns-5 returns-6)

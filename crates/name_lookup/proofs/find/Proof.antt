@@ -4,7 +4,8 @@ use mathlib.Core.Path.{_≡_, sym}
 use denote.Ref.{now}
 use native.Mathlib.Omega.{arith}
 use Rattle.name.specs.Layout.{count, keyOf}
-use Rattle.name.proofs.Acceptances.{Laid, check-accepted, keys-rise}
+use Rattle.name.specs.Acceptance.{Framed}
+use Rattle.name.proofs.Acceptances.{accepted-framed, keys-rise}
 use Rattle.name_lookup.specs.Answers.{recordOf}
 use Rattle.name_lookup.proofs.Halvings.{Rising, rising, Between, start, upward, downward, scan-found, nowhere}
 use Rattle.name_lookup.proofs.find.Statement.{statement}
@@ -16,8 +17,8 @@ Inv-loop table platform encoding language name key low₀ high₀ low high = Bet
 abbrev μ-loop : tie.MeasureT-loop
 μ-loop table platform encoding language name key low₀ high₀ low high = high - low
 
-laid : (c : tie.Start Inv-loop μ-loop) → Laid (now (c .args .table))
-laid c = check-accepted _ .0 (c .pre) .laid
+framed : (c : tie.Start Inv-loop μ-loop) → Framed (now (c .args .table))
+framed c = accepted-framed _ (c .pre)
 
 ordered : (c : tie.Start Inv-loop μ-loop) → Rising (keyOf (now (c .args .table))) (count (now (c .args .table)))
 ordered c = rising _ _ (keys-rise _ (c .pre))
@@ -26,7 +27,7 @@ key-number-requires : tie.Need-key-number-requires Inv-loop μ-loop
 key-number-requires c κs = search needs
 
 record-count-requires : tie.Need-record-count-requires Inv-loop μ-loop
-record-count-requires c κs = laid (c .before .before) .front
+record-count-requires c κs = framed (c .before .before) .front
 
 cast-high : tie.Need-cast-high Inv-loop μ-loop
 cast-high c = search needs
@@ -38,7 +39,7 @@ add-mid : tie.Need-add-mid Inv-loop μ-loop
 add-mid c = omega arith
 
 key-at-requires : tie.Need-key-at-requires Inv-loop μ-loop
-key-at-requires c κs = omega (arith, laid (c .before .before .before .before .before))
+key-at-requires c κs = omega (arith, framed (c .before .before .before .before .before))
 
 returns : tie.Need-returns Inv-loop μ-loop
 unfolding recordOf
