@@ -9,11 +9,10 @@ use native.Mathlib.Decide.{decLt, ℕ-discrete}
 use native.Mathlib.Omega.{arith}
 use lib.ListN.{length}
 use borrow.Author.Tests.{ltb-false, leb-false, lt-ltb, le-ltb, le-leb, lt-leb, eq-eqb, ne-eqb}
-use Rattle.name.specs.declared.Refusal.{Refusal}
-use Rattle.name.specs.declared.Verdict.{Verdict}
 use Rattle.name.specs.declared.Verdict.the-variants.{Accepted}
 use Rattle.name.specs.Layout.{format, count, recordAt, platform, language, textAt, recordsEnd, tagCount, tagAt, tagsEnd, keyOf}
-use Rattle.name.specs.Acceptance.{_then_, when, firstOf, tooShort, otherFormat, recordsPass, tagsPass, misplaced, stringPasses, languageRefused, notAbove, layoutFault, recordFault, tagFault, checkOf, Framed, FitAndRise, LanguagesFit}
+use Rattle.name.specs.Acceptance.{_then_, firstOf, tooShort, otherFormat, recordsPass, tagsPass, misplaced, stringPasses, forbidden, languageRefused, notAbove, layoutFault, recordFault, tagFault, checkOf}
+use Rattle.name.specs.Steps.{Framed, FitAndRise, LanguagesFit}
 use Rattle.name.proofs.Firsts.{passed, then-accepted, when-accepted, first-accepted}
 use Rattle.name.proofs.Layouts.{format-0}
 
@@ -32,7 +31,7 @@ pub record Laid (t : List ℕ) : Type 0 where
 -- none of 15, 18, 17
 pub record Sound (t : List ℕ) (i : ℕ) : Type 0 where
   pub string : stringPasses t (textAt i) ≡ false
-  pub language : languageRefused (format t) (tagCount t) (platform t i) (language t i) ≡ false
+  pub language : languageRefused t i ≡ false
   pub order : notAbove t i ≡ false
 
 -- none of 10 to 18
@@ -144,29 +143,30 @@ module _ (t : List ℕ) where
 
 -- ---- the languages, in either format
 module _ (format tags platform language : ℕ) where
-  pub language-plain : language < 32768 → languageRefused format tags platform language ≡ false
-  unfolding languageRefused
+  pub language-plain : language < 32768 → forbidden format tags platform language ≡ false
+  unfolding forbidden
   language-plain l = simp (lt-leb _ _ l)
 
-  pub language-0 : format ≡ 0 → 32768 ≤ language → (languageRefused format tags platform language ≡ false) ↔ ((240 ≤ platform) × (platform ≤ 255))
-  unfolding languageRefused
+  pub language-0 : format ≡ 0 → 32768 ≤ language → (forbidden format tags platform language ≡ false) ↔ ((240 ≤ platform) × (platform ≤ 255))
+  unfolding forbidden
   language-0 f l = (
     λ e. let o = or-false _ _ .0 (simp (le-leb _ _ l, eq-eqb _ _ f) at e) in (ltb-false _ _ (o .0), ltb-false _ _ (o .1)),
     λ p. simp (le-leb _ _ l, eq-eqb _ _ f) (or-false _ _ .1 (le-ltb _ _ (p .0), le-ltb _ _ (p .1))),
   )
 
-  pub language-1 : (format ≡ 0 → ⊥) → 32768 ≤ language → (languageRefused format tags platform language ≡ false) ↔ (language < 32768 + tags)
-  unfolding languageRefused
+  pub language-1 : (format ≡ 0 → ⊥) → 32768 ≤ language → (forbidden format tags platform language ≡ false) ↔ (language < 32768 + tags)
+  unfolding forbidden
   language-1 f l = (
     λ e. leb-false _ _ (simp (le-leb _ _ l, ne-eqb _ _ f) at e),
     λ p. simp (le-leb _ _ l, ne-eqb _ _ f) (lt-leb _ _ p),
   )
 
 -- a language below 0x8000 plus the tag count is allowed: format 0 has no tags
-pub language-below : (t : List ℕ) (i : ℕ) → language t i < 32768 + tagCount t → languageRefused (format t) (tagCount t) (platform t i) (language t i) ≡ false
+pub language-below : (t : List ℕ) (i : ℕ) → language t i < 32768 + tagCount t → languageRefused t i ≡ false
+unfolding languageRefused
 language-below t i h = side (decLt (language t i) 32768) (ℕ-discrete (format t) 0)
   where
-    side : Dec (language t i < 32768) → Dec (format t ≡ 0) → languageRefused (format t) (tagCount t) (platform t i) (language t i) ≡ false
+    side : Dec (language t i < 32768) → Dec (format t ≡ 0) → forbidden (format t) (tagCount t) (platform t i) (language t i) ≡ false
     side (yes l) f = language-plain _ _ _ _ l
     side (no l) (yes f) = absurd (omega (arith, format-0 t f))
     side (no l) (no f) = let g : 32768 ≤ language t i = omega arith in language-1 _ _ _ _ f g .1 h

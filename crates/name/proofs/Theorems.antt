@@ -1,6 +1,6 @@
 -- "Accepted exactly when": each refusal's test against its proposition, over every record and tag.
 -- Assumes nothing.
-use Prim.Native.Nat.{ℕ, zero, suc, _+_, _≤_, _<_}
+use Prim.Native.Nat.{ℕ, zero, suc, _≤_, _<_}
 use mathlib.Core.Path.{_≡_}
 use mathlib.Core.Logic.{_⊎_, inl, inr, ⊎-elim, _↔_}
 use mathlib.Core.List.{List}
@@ -8,13 +8,12 @@ use mathlib.Core.Bool.{false}
 use native.Mathlib.Decide.{decLt}
 use native.Mathlib.Omega.{arith}
 use lib.ListN.{length}
-use borrow.Author.Tests.{ltb-false, leb-false, le-ltb}
-use Rattle.bigendian.specs.Numbers.{Bytes}
-use Rattle.name.specs.Layout.{format, count, storage, platform, language, recordsEnd, tagCount, tagsEnd, stringEnd, keyOf}
-use Rattle.name.specs.Acceptance.{tooShort, otherFormat, recordsPass, tagsPass, misplaced, stringPasses, languageRefused, notAbove, checkOf}
+use borrow.Author.Tests.{ltb-false, le-ltb}
+use Rattle.name.specs.Layout.{format, count, storage, platform, language, recordsEnd, tagCount, tagsEnd, stringEnd}
+use Rattle.name.specs.Acceptance.{tooShort, otherFormat, recordsPass, tagsPass, misplaced, stringPasses, forbidden, languageRefused, notAbove, checkOf}
 use Rattle.name.specs.Acceptable.{LanguageAllowed, Acceptable, AcceptedExactlyWhen, AtMost5460}
 use Rattle.name.proofs.Layouts.{tags-after}
-use Rattle.name.proofs.Acceptances.{or-false, Laid, Passed, check-accepted, language-0, language-1, language-plain, above, order-ok, long, records-within, tags-within}
+use Rattle.name.proofs.Acceptances.{or-false, Passed, check-accepted, language-0, language-1, language-plain, above, order-ok, long, records-within, tags-within}
 use Rattle.name.proofs.Keys.{key-below, word-lt}
 
 module _ (t : List ℕ) where
@@ -37,7 +36,8 @@ module _ (t : List ℕ) where
   unfolding stringPasses
   string-fits at = (ltb-false _ _, le-ltb _ _)
 
-  language-fits : (i : ℕ) → (format t ≡ 0) ⊎ (format t ≡ 1) → (languageRefused (format t) (tagCount t) (platform t i) (language t i) ≡ false) ↔ LanguageAllowed t i
+  language-fits : (i : ℕ) → (format t ≡ 0) ⊎ (format t ≡ 1) → (languageRefused t i ≡ false) ↔ LanguageAllowed t i
+  unfolding languageRefused
   language-fits i k = (
     (λ e. record { format0 = λ f l. language-0 _ _ _ _ f l .0 e; format1 = λ f l. language-1 _ _ _ _ (one f) l .0 e }),
     λ a. side a (decLt (language t i) 32768) k,
@@ -47,7 +47,7 @@ module _ (t : List ℕ) where
       one f z = omega arith
 
       side : LanguageAllowed t i → Dec (language t i < 32768) → (format t ≡ 0) ⊎ (format t ≡ 1)
-          → languageRefused (format t) (tagCount t) (platform t i) (language t i) ≡ false
+          → forbidden (format t) (tagCount t) (platform t i) (language t i) ≡ false
       side a (yes l) f = language-plain _ _ _ _ l
       side a (no l) (inl f) = let h : 32768 ≤ language t i = omega arith in language-0 _ _ _ _ f h .1 (a .format0 f h)
       side a (no l) (inr f) = let h : 32768 ≤ language t i = omega arith in language-1 _ _ _ _ (one f) h .1 (a .format1 f h)

@@ -1,8 +1,7 @@
 -- Document 01, "Order", for 'name': "10, 11, 12, 13, 14; then records from 0 upward, at each 15, 18, 17; then tags from 0 upward, 16".
-use Prim.Native.Nat.{ℕ, zero, suc, _+_, _-_, _≤_, _<_}
-use mathlib.Core.Path.{_≡_}
+use Prim.Native.Nat.{ℕ, zero, suc, _+_, _-_}
 use mathlib.Core.List.{List}
-use mathlib.Core.Bool.{Bool, false, cond, _&&_, _||_}
+use mathlib.Core.Bool.{Bool, cond, _&&_, _||_}
 use lib.ListN.{length}
 use lib.Dec.{ltb, leb, eqb}
 use Rattle.name.specs.Layout.{format, count, storage, platform, language, textAt, recordsEnd, tagCount, tagAt, tagsEnd, stringEnd, keyOf}
@@ -52,9 +51,12 @@ stringPasses t at = ltb (length t) (stringEnd t at)
 
 -- 18: "In format 0 a language of 0x8000 or more is allowed only for platforms 240 to 255.
 -- In format 1 a language of 0x8000 or more must be below 0x8000 plus the tag count, on every platform."
-unfoldable pub languageRefused : ℕ → ℕ → ℕ → ℕ → Bool
-languageRefused format tags platform language =
+unfoldable pub forbidden : ℕ → ℕ → ℕ → ℕ → Bool
+forbidden format tags platform language =
     leb 32768 language && cond (eqb format 0) (ltb platform 240 || ltb 255 platform) (leb (32768 + tags) language)
+
+unfoldable pub languageRefused : List ℕ → ℕ → Bool
+languageRefused t i = forbidden (format t) (tagCount t) (platform t i) (language t i)
 
 -- 17: "a record's key isn't above the one before it"
 unfoldable pub notAbove : List ℕ → ℕ → Bool
@@ -73,7 +75,7 @@ layoutFault t =
 unfoldable pub recordFault : List ℕ → ℕ → Verdict
 recordFault t i =
     when (stringPasses t (textAt i)) (RecordString i)
-    then when (languageRefused (format t) (tagCount t) (platform t i) (language t i)) (LanguageRefused i)
+    then when (languageRefused t i) (LanguageRefused i)
     then when (notAbove t i) (KeyNotAbove i)
 
 -- "16"
@@ -86,16 +88,3 @@ checkOf t =
     layoutFault t
     then firstOf (recordFault t) (count t)
     then firstOf (tagFault t) (tagCount t)
-
--- what the layout's refusals leave: records and tags within the table
-pub record Framed (t : List ℕ) : Type 0 where
-  pub front : 6 ≤ length t
-  pub records : recordsEnd t ≤ length t
-  pub tags : tagsEnd t ≤ length t
-
--- what the two quick passes show of the first n records
-abbrev pub FitAndRise : List ℕ → ℕ → Type 0
-FitAndRise t n = (i : ℕ) → i < n → (stringPasses t (textAt i) ≡ false) × (notAbove t i ≡ false)
-
-abbrev pub LanguagesFit : List ℕ → ℕ → Type 0
-LanguagesFit t n = (i : ℕ) → i < n → languageRefused (format t) (tagCount t) (platform t i) (language t i) ≡ false

@@ -2,3 +2,4 @@ pub mod Layout
 pub mod Refusals
 pub mod Acceptance
 pub mod Acceptable
+pub mod Steps

@@ -2,12 +2,35 @@
 // Document 01, "The 'name' layout", and the refusals 10 to 18 in their order. It relies on big-endian reads alone.
 ghost use mathlib.Core.Path.{_≡_};
 ghost use mathlib.Core.Bool.{true, false};
-ghost use Prim.Native.Nat.{ℕ, _+_, _*_, _≤_, _<_};
+ghost use Prim.Native.Nat.{_+_, _*_, _≤_, _<_};
 ghost use lib.ListN.{length};
-ghost use Rattle.name.specs.Layout.{format, count, storage, recordAt, recordsEnd, tagCount, tagsAt, tagsEnd, keyNumber, keyOf, textOf};
+ghost use Rattle.name.specs.Layout.{format, count, storage, recordAt, recordsEnd, tagCount, tagsAt, keyNumber, keyOf, textOf};
 ghost use Rattle.name.specs.Refusals.{numberOf, placeOf};
-ghost use Rattle.name.specs.Acceptance.{firstOf, tooShort, otherFormat, recordsPass, tagsPass, misplaced, stringPasses, languageRefused, notAbove, layoutFault, recordFault, tagFault, checkOf, Framed, FitAndRise, LanguagesFit};
+ghost use Rattle.name.specs.Acceptance.{firstOf, tooShort, otherFormat, recordsPass, tagsPass, misplaced, stringPasses, forbidden, languageRefused, notAbove, layoutFault, recordFault, tagFault, checkOf};
+ghost use Rattle.name.specs.Steps.{Framed, FitAndRise, LanguagesFit};
 use bigendian::read_u16;
+
+// The bytes of the format, the count and the storage start.
+const HEADER_SIZE: usize = 6;
+
+// The bytes of a name record, and where its parts after the platform stand in it.
+const RECORD_SIZE: usize = 12;
+
+const ENCODING: usize = 2;
+
+const LANGUAGE: usize = 4;
+
+const NAME: usize = 6;
+
+const LENGTH: usize = 8;
+
+// A string's offset stands so many bytes after its length, in a record and in a tag.
+const OFFSET: usize = 2;
+
+// The bytes of the tag count, and of a tag.
+const TAG_COUNT_SIZE: usize = 2;
+
+const TAG_SIZE: usize = 4;
 
 // Why a table is refused, with the record or the tag that is at fault.
 pub enum Refusal {
@@ -38,6 +61,7 @@ pub enum Place {
     At(usize),
 }
 
+// What the check of a table says.
 pub enum Verdict {
     Accepted,
     Refused(Refusal),
@@ -142,7 +166,7 @@ fn fit_and_rise(table: &[u8]) -> bool
     let mut last = 0;
     let mut i = 0;
     while i < count {
-        if string_passes(table, 6 + 12 * i + 8) {
+        if string_passes(table, HEADER_SIZE + RECORD_SIZE * i + LENGTH) {
             return false;
         }
         let here = key_at(table, i);
@@ -168,10 +192,10 @@ fn languages_below(table: &[u8]) -> bool
     ensures { λ r. ⌜ (r ≡ true → LanguagesFit (now (table .entry)) (count (now (table .entry)))) ⌝ }
 {
     let count = record_count(table) as usize;
-    let limit = 32768 + tag_count(table) as u32;
+    let limit = 0x8000 + tag_count(table) as u32;
     let mut i = 0;
     while i < count {
-        if limit <= read_u16(table, 6 + 12 * i + 4) as u32 {
+        if limit <= read_u16(table, HEADER_SIZE + RECORD_SIZE * i + LANGUAGE) as u32 {
             return false;
         }
         i += 1;
@@ -216,13 +240,10 @@ fn record_fault(table: &[u8], i: usize) -> Verdict
     requires { ⌜ Framed (now table) × (i < count (now table)) ⌝ }
     ensures { λ r. ⌜ r ≡ recordFault (now (table .entry)) i ⌝ }
 {
-    let at = 6 + 12 * i;
-    if string_passes(table, at + 8) {
+    if string_passes(table, HEADER_SIZE + RECORD_SIZE * i + LENGTH) {
         return Verdict::Refused(Refusal::RecordString(i));
     }
-    let platform = read_u16(table, at);
-    let language = read_u16(table, at + 4);
-    if language_refused(format_number(table), tag_count(table), platform, language) {
+    if language_refused(table, i) {
         return Verdict::Refused(Refusal::LanguageRefused(i));
     }
     if not_above(table, i) {
@@ -236,7 +257,7 @@ fn tag_fault(table: &[u8], i: usize) -> Verdict
     requires { ⌜ Framed (now table) × (i < tagCount (now table)) ⌝ }
     ensures { λ r. ⌜ r ≡ tagFault (now (table .entry)) i ⌝ }
 {
-    if string_passes(table, tags_start(table) + 4 * i) {
+    if string_passes(table, tags_start(table) + TAG_SIZE * i) {
         return Verdict::Refused(Refusal::TagString(i));
     }
     Verdict::Accepted
@@ -246,7 +267,7 @@ fn tag_fault(table: &[u8], i: usize) -> Verdict
 fn too_short(table: &[u8]) -> bool
     ensures { λ r. ⌜ r ≡ tooShort (now (table .entry)) ⌝ }
 {
-    table.len() < 6
+    table.len() < HEADER_SIZE
 }
 
 // Whether the format is neither 0 nor 1.
@@ -274,10 +295,10 @@ fn tags_pass(table: &[u8]) -> bool
         return false;
     }
     let end = records_end(table);
-    if table.len() < end + 2 {
+    if table.len() < end + TAG_COUNT_SIZE {
         return true;
     }
-    table.len() < end + 2 + 4 * (read_u16(table, end) as usize)
+    table.len() < end + TAG_COUNT_SIZE + TAG_SIZE * (read_u16(table, end) as usize)
 }
 
 // Whether the storage starts among the records and tags, or past the table's end.
@@ -286,7 +307,7 @@ fn storage_misplaced(table: &[u8]) -> bool
     ensures { λ r. ⌜ r ≡ misplaced (now (table .entry)) ⌝ }
 {
     let start = storage_start(table) as usize;
-    start < tags_start(table) + 4 * (tag_count(table) as usize) || table.len() < start
+    start < tags_start(table) + TAG_SIZE * (tag_count(table) as usize) || table.len() < start
 }
 
 // Whether the string of the length and offset at a place passes the table's end.
@@ -294,21 +315,35 @@ fn string_passes(table: &[u8], at: usize) -> bool
     requires { ⌜ (6 ≤ length (now table)) × (at + 4 ≤ length (now table)) ⌝ }
     ensures { λ r. ⌜ r ≡ stringPasses (now (table .entry)) at ⌝ }
 {
-    let start = storage_start(table) as usize + read_u16(table, at + 2) as usize;
+    let start = storage_start(table) as usize + read_u16(table, at + OFFSET) as usize;
     table.len() < start + read_u16(table, at) as usize
 }
 
-// Whether a language number is not allowed on a platform, in a format with this many tags.
-fn language_refused(format: u16, tags: u16, platform: u16, language: u16) -> bool
-    ensures { λ r. ⌜ r ≡ languageRefused format tags platform language ⌝ }
+// Whether the language number of record i is not allowed.
+fn language_refused(table: &[u8], i: usize) -> bool
+    requires { ⌜ Framed (now table) × (i < count (now table)) ⌝ }
+    ensures { λ r. ⌜ r ≡ languageRefused (now (table .entry)) i ⌝ }
 {
-    if language < 32768 {
+    let at = HEADER_SIZE + RECORD_SIZE * i;
+    forbidden(
+        format_number(table),
+        tag_count(table),
+        read_u16(table, at),
+        read_u16(table, at + LANGUAGE),
+    )
+}
+
+// Whether a language number is not allowed on a platform, in a format with this many tags.
+fn forbidden(format: u16, tags: u16, platform: u16, language: u16) -> bool
+    ensures { λ r. ⌜ r ≡ forbidden format tags platform language ⌝ }
+{
+    if language < 0x8000 {
         return false;
     }
     if format == 0 {
         return platform < 240 || 255 < platform;
     }
-    32768 + tags as u32 <= language as u32
+    0x8000 + tags as u32 <= language as u32
 }
 
 // Whether record i follows one whose key is not below its own.
@@ -318,6 +353,8 @@ fn not_above(table: &[u8], i: usize) -> bool
 {
     0 < i && key_at(table, i) <= key_at(table, i - 1)
 }
+
+// ---- reads of a table, here and in the crates above
 
 // The table's format.
 pub fn format_number(table: &[u8]) -> u16
@@ -348,7 +385,7 @@ fn records_end(table: &[u8]) -> usize
     requires { ⌜ 6 ≤ length (now table) ⌝ }
     ensures { λ r. ⌜ r ≡ recordsEnd (now (table .entry)) ⌝ }
 {
-    6 + 12 * (record_count(table) as usize)
+    HEADER_SIZE + RECORD_SIZE * (record_count(table) as usize)
 }
 
 // The number of language tags, none in format 0.
@@ -370,7 +407,7 @@ fn tags_start(table: &[u8]) -> usize
     if format_number(table) == 0 {
         return records_end(table);
     }
-    records_end(table) + 2
+    records_end(table) + TAG_COUNT_SIZE
 }
 
 // The four numbers of a key as one.
@@ -385,12 +422,12 @@ pub fn key_at(table: &[u8], i: usize) -> u64
     requires { ⌜ recordAt i + 12 ≤ length (now table) ⌝ }
     ensures { λ r. ⌜ r ≡ keyOf (now (table .entry)) i ⌝ }
 {
-    let at = 6 + 12 * i;
+    let at = HEADER_SIZE + RECORD_SIZE * i;
     key_number(
         read_u16(table, at),
-        read_u16(table, at + 2),
-        read_u16(table, at + 4),
-        read_u16(table, at + 6),
+        read_u16(table, at + ENCODING),
+        read_u16(table, at + LANGUAGE),
+        read_u16(table, at + NAME),
     )
 }
 
@@ -399,9 +436,9 @@ pub fn text_of(table: &[u8], i: usize) -> Text
     requires { ⌜ recordAt i + 12 ≤ length (now table) ⌝ }
     ensures { λ r. ⌜ r ≡ textOf (now (table .entry)) i ⌝ }
 {
-    let at = 6 + 12 * i + 8;
+    let at = HEADER_SIZE + RECORD_SIZE * i + LENGTH;
     Text {
-        start: storage_start(table) as usize + read_u16(table, at + 2) as usize,
+        start: storage_start(table) as usize + read_u16(table, at + OFFSET) as usize,
         len: read_u16(table, at) as usize,
     }
 }

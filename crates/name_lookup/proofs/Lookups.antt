@@ -1,9 +1,8 @@
 -- The three answers of a lookup, and what each says of the table.
 -- Assumes nothing.
-use Prim.Native.Nat.{ℕ, suc, _+_, _*_, _≤_, _<_}
-use mathlib.Core.Path.{_≡_, refl}
+use Prim.Native.Nat.{ℕ, _<_}
+use mathlib.Core.Path.{_≡_}
 use mathlib.Core.List.{List}
-use native.Mathlib.Omega.{arith}
 use Rattle.name.specs.declared.Refusal.{Refusal}
 use Rattle.name.specs.declared.Place.{Place}
 use Rattle.name.specs.declared.Place.the-variants.{Nowhere, At}

@@ -1,10 +1,9 @@
 -- "Found exactly when": a scan of rising keys finds the one record that has the key, and equal keys have all four numbers equal.
 -- Assumes nothing.
-use Prim.Native.Nat.{ℕ, _+_, _*_, _≤_, _<_}
-use mathlib.Core.Path.{_≡_, refl, sym}
+use Prim.Native.Nat.{ℕ, _+_, _<_}
+use mathlib.Core.Path.{_≡_, refl}
 use mathlib.Core.List.{List}
 use native.Mathlib.Omega.{arith}
-use lib.ListN.{length}
 use Rattle.bigendian.specs.Numbers.{Bytes}
 use Rattle.name.specs.declared.Place.{Place}
 use Rattle.name.specs.declared.Place.the-variants.{Nowhere, At}
@@ -19,9 +18,7 @@ use Rattle.name.proofs.Acceptances.{keys-rise}
 use Rattle.name.proofs.Keys.{word-lt, same-key}
 use Rattle.name.proofs.Layouts.{number-most}
 use Rattle.name.proofs.Theorems.{accepted-exactly-when}
-use Rattle.name_lookup.specs.declared.Answer.{Answer}
 use Rattle.name_lookup.specs.declared.Answer.the-variants.{Found, NoRecord}
-use Rattle.name_lookup.specs.declared.Numbered.{Numbered}
 use Rattle.name_lookup.specs.declared.Numbered.the-variants.{Text, Refusal}
 use Rattle.name_lookup.specs.Answers.{recordOf, lookupOf, said}
 use Rattle.name_lookup.specs.Exactly.{HasKey, FoundExactlyWhen, MissingExactlyWhen, WithinStorage}

@@ -1,9 +1,11 @@
-use denote.Ref.{now}
-use Rattle.name.specs.Acceptance.{layoutFault, checkOf, _then_}
+-- The three parts are the definition's three, in its order; past the first the records and tags lie within the table.
+-- Assumes nothing.
 use mathlib.Core.Path.{_≡_}
+use denote.Ref.{now}
+use borrow.Author.Needs.{needs}
+use Rattle.name.specs.Acceptance.{layoutFault, checkOf, _then_}
 use Rattle.name.specs.declared.Verdict.the-variants.{Accepted, Refused}
 use Rattle.name.proofs.Acceptances.{layout-accepted, framed}
-use borrow.Author.Needs.{needs}
 use Rattle.name.proofs.check.Statement.{statement}
 use Rattle.name.proofs.check.Tie as tie
 
@@ -15,7 +17,9 @@ enum-known-r c = search needs
 
 returns : tie.Need-returns
 unfolding checkOf _then_
-returns c = let e : c .before .before .before .layout-fault .result ≡ Refused (c .before .r .given .0 .0) = cc in simp (← c .before .before .before .layout-fault .ensures, e)
+returns c =
+    let e : c .before .before .before .layout-fault .result ≡ Refused (c .before .r .given .0 .0) = cc in
+    simp (← c .before .before .before .layout-fault .ensures, e)
 
 enum-told : tie.Need-enum-told
 enum-told c = search needs
@@ -32,7 +36,9 @@ enum-known-r-2 c = search needs
 
 returns-2 : tie.Need-returns-2
 unfolding checkOf _then_
-returns-2 c = let e : c .before .before .before .record-faults .result ≡ Refused (c .before .r2 .given .0 .0) = cc in simp (laid (c .before .before .before .before), ← c .before .before .before .record-faults .ensures, e)
+returns-2 c =
+    let e : c .before .before .before .record-faults .result ≡ Refused (c .before .r2 .given .0 .0) = cc in
+    simp (laid (c .before .before .before .before), ← c .before .before .before .record-faults .ensures, e)
 
 enum-told-2 : tie.Need-enum-told-2
 enum-told-2 c = search needs
@@ -42,7 +48,9 @@ tag-faults-requires c κs = framed _ (layout-accepted _ .0 (laid (c .before .bef
 
 returns-3 : tie.Need-returns-3
 unfolding checkOf _then_
-returns-3 c = let e : c .before .before .before .record-faults .result ≡ Accepted = cc in simp (laid (c .before .before .before .before), ← c .before .before .before .record-faults .ensures, e) (c .tag-faults .ensures)
+returns-3 c =
+    let e : c .before .before .before .record-faults .result ≡ Accepted = cc in
+    simp (laid (c .before .before .before .before), ← c .before .before .before .record-faults .ensures, e) (c .tag-faults .ensures)
 
 pub check-spec : {M : Type 1} → statement M
 check-spec =

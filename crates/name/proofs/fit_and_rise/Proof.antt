@@ -1,10 +1,12 @@
-use borrow.Author.Needs.{needs}
-use borrow.Author.Count.{below-none, below-more}
+-- The loop keeps that each record so far fits and is above the one before it, and that `last` is the key of the record before.
+-- Assumes nothing.
 use Prim.Native.Nat.{ℕ, _+_, _≤_, _<_, _-_}
 use mathlib.Core.Path.{_≡_, sym, _∙_}
 use native.Mathlib.Omega.{arith}
+use borrow.Author.Needs.{needs}
+use borrow.Author.Count.{below-none, below-more}
 use Rattle.name.specs.Layout.{keyOf}
-use Rattle.name.specs.Acceptance.{FitAndRise}
+use Rattle.name.specs.Steps.{FitAndRise}
 use Rattle.name.proofs.Acceptances.{order-ok}
 use Rattle.name.proofs.fit_and_rise.Statement.{statement}
 use Rattle.name.proofs.fit_and_rise.Tie as tie
@@ -38,7 +40,9 @@ string-passes-requires : tie.Need-string-passes-requires Inv-loop μ-loop
 string-passes-requires c κs = search needs
 
 returns : tie.Need-returns Inv-loop μ-loop
-returns c = λ e. let z : _≡_ {A = ℕ} 0 1 = cc in absurd (omega arith)
+returns c = λ e.
+    let z : _≡_ {A = ℕ} 0 1 = cc in
+    absurd (omega arith)
 
 key-at-requires : tie.Need-key-at-requires Inv-loop μ-loop
 key-at-requires c κs = search needs
@@ -47,7 +51,9 @@ sinks-requires : tie.Need-sinks-requires Inv-loop μ-loop
 sinks-requires c κs = search needs
 
 returns-2 : tie.Need-returns-2 Inv-loop μ-loop
-returns-2 c = λ e. let z : _≡_ {A = ℕ} 0 1 = cc in absurd (omega arith)
+returns-2 c = λ e.
+    let z : _≡_ {A = ℕ} 0 1 = cc in
+    absurd (omega arith)
 
 add-i : tie.Need-add-i Inv-loop μ-loop
 add-i c = search needs
@@ -56,10 +62,19 @@ loop-less : tie.Need-loop-less Inv-loop μ-loop
 loop-less c = search needs
 
 loop-again : tie.Need-loop-again Inv-loop μ-loop
-loop-again c = let at = c .before .before .before .before .before .before in let t = at .before .before .before .args .table .now in let i = at .loop .i in let e : i + 1 - 1 ≡ i = omega arith in (search needs, below-more _ i (at .loop .inv .1) (sym (c .before .before .before .before .string-passes .ensures) ∙ c .before .before .before .if1 .left, order-ok t i (λ l. omega (arith, c .before .sinks .ensures (c .if2 .left) l, at .loop .inv .2 l, c .before .before .key-at .ensures))), λ l. rw e (c .before .before .key-at .ensures))
+loop-again c =
+    let at = c .before .before .before .before .before .before in
+    let t = at .before .before .before .args .table .now in
+    let i = at .loop .i in
+    let e : i + 1 - 1 ≡ i = omega arith in
+    let fits = sym (c .before .before .before .before .string-passes .ensures) ∙ c .before .before .before .if1 .left in
+    let rises = order-ok t i (λ l. omega (arith, c .before .sinks .ensures (c .if2 .left) l, at .loop .inv .2 l, c .before .before .key-at .ensures)) in
+    (search needs, below-more _ i (at .loop .inv .1) (fits, rises), λ l. rw e (c .before .before .key-at .ensures))
 
 returns-3 : tie.Need-returns-3 Inv-loop μ-loop
-returns-3 c = λ e. let end : c .before .loop .i ≡ c .before .before .record-count .result = omega arith in rw (← c .before .before .record-count .ensures, ← end) (c .before .loop .inv .1)
+returns-3 c = λ e.
+    let end : c .before .loop .i ≡ c .before .before .record-count .result = omega arith in
+    rw (← c .before .before .record-count .ensures, ← end) (c .before .loop .inv .1)
 
 pub fit-and-rise-spec : {M : Type 1} → statement M
 fit-and-rise-spec =

@@ -1,5 +1,7 @@
-use Rattle.name.specs.Layout.{keyOf}
+-- The four numbers that were read are the key's digits.
+-- Assumes nothing.
 use borrow.Author.Needs.{needs}
+use Rattle.name.specs.Layout.{keyOf}
 use Rattle.name.proofs.key_at.Statement.{statement}
 use Rattle.name.proofs.key_at.Tie as tie
 

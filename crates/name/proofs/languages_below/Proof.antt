@@ -1,9 +1,11 @@
-use borrow.Author.Needs.{needs}
-use borrow.Author.Count.{below-none, below-more}
+-- The loop keeps that each language so far is below the limit, and so allowed in either format.
+-- Assumes nothing.
 use Prim.Native.Nat.{ℕ, _≤_, _-_}
 use mathlib.Core.Path.{_≡_}
 use native.Mathlib.Omega.{arith}
-use Rattle.name.specs.Acceptance.{LanguagesFit}
+use borrow.Author.Needs.{needs}
+use borrow.Author.Count.{below-none, below-more}
+use Rattle.name.specs.Steps.{LanguagesFit}
 use Rattle.name.proofs.Acceptances.{language-below}
 use Rattle.name.proofs.languages_below.Statement.{statement}
 use Rattle.name.proofs.languages_below.Tie as tie
@@ -48,7 +50,9 @@ cast-if1 : tie.Need-cast-if1 Inv-loop μ-loop
 cast-if1 c = search needs
 
 returns : tie.Need-returns Inv-loop μ-loop
-returns c = λ e. let z : _≡_ {A = ℕ} 0 1 = cc in absurd (omega arith)
+returns c = λ e.
+    let z : _≡_ {A = ℕ} 0 1 = cc in
+    absurd (omega arith)
 
 add-i : tie.Need-add-i Inv-loop μ-loop
 add-i c = search needs
@@ -57,10 +61,16 @@ loop-less : tie.Need-loop-less Inv-loop μ-loop
 loop-less c = search needs
 
 loop-again : tie.Need-loop-again Inv-loop μ-loop
-loop-again c = let at = c .before .before .before in let t = at .before .before .before .before .args .table .now in let i = at .loop .i in (search needs, below-more _ i (at .loop .inv .1) (language-below t i (omega arith)))
+loop-again c =
+    let at = c .before .before .before in
+    let t = at .before .before .before .before .args .table .now in
+    let i = at .loop .i in
+    (search needs, below-more _ i (at .loop .inv .1) (language-below t i (omega arith)))
 
 returns-2 : tie.Need-returns-2 Inv-loop μ-loop
-returns-2 c = λ e. let end : c .before .loop .i ≡ c .before .before .before .record-count .result = omega arith in rw (← c .before .before .before .record-count .ensures, ← end) (c .before .loop .inv .1)
+returns-2 c = λ e.
+    let end : c .before .loop .i ≡ c .before .before .before .record-count .result = omega arith in
+    rw (← c .before .before .before .record-count .ensures, ← end) (c .before .loop .inv .1)
 
 pub languages-below-spec : {M : Type 1} → statement M
 languages-below-spec =

@@ -1,6 +1,8 @@
-use Rattle.name.specs.Acceptance.{notAbove}
+-- The first record follows none; any other is compared with the one before it.
+-- Assumes nothing.
 use borrow.Author.Tests.{lt-ltb, le-ltb}
 use borrow.Author.Needs.{needs}
+use Rattle.name.specs.Acceptance.{notAbove}
 use Rattle.name.proofs.not_above.Statement.{statement}
 use Rattle.name.proofs.not_above.Tie as tie
 

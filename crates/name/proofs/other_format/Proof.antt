@@ -1,5 +1,7 @@
-use Rattle.name.specs.Acceptance.{otherFormat}
+-- The test is the definition's, of the number that was read.
+-- Assumes nothing.
 use borrow.Author.Needs.{needs}
+use Rattle.name.specs.Acceptance.{otherFormat}
 use Rattle.name.proofs.other_format.Statement.{statement}
 use Rattle.name.proofs.other_format.Tie as tie
 

@@ -1,6 +1,8 @@
+-- Where both quick passes hold no record has a fault; else the exact pass decides.
+-- Assumes nothing.
 use mathlib.Core.Path.{sym}
-use Rattle.name.proofs.Acceptances.{quick}
 use borrow.Author.Needs.{needs}
+use Rattle.name.proofs.Acceptances.{quick}
 use Rattle.name.proofs.record_faults.Statement.{statement}
 use Rattle.name.proofs.record_faults.Tie as tie
 

@@ -1,5 +1,7 @@
-use Rattle.name.specs.Acceptance.{recordsPass}
+-- The test is the definition's, of the number that was read.
+-- Assumes nothing.
 use borrow.Author.Needs.{needs}
+use Rattle.name.specs.Acceptance.{recordsPass}
 use Rattle.name.proofs.records_pass.Statement.{statement}
 use Rattle.name.proofs.records_pass.Tie as tie
 

@@ -1,6 +1,8 @@
+-- Both tests are the definition's, of the numbers that were read.
+-- Assumes nothing.
 use borrow.Author.Tests.{lt-ltb, le-ltb}
-use Rattle.name.specs.Acceptance.{misplaced}
 use borrow.Author.Needs.{needs}
+use Rattle.name.specs.Acceptance.{misplaced}
 use Rattle.name.proofs.storage_misplaced.Statement.{statement}
 use Rattle.name.proofs.storage_misplaced.Tie as tie
 

@@ -1,5 +1,7 @@
-use Rattle.name.specs.Acceptance.{stringPasses}
+-- The sum is the definition's, of the numbers that were read; it cannot wrap.
+-- Assumes nothing.
 use borrow.Author.Needs.{needs}
+use Rattle.name.specs.Acceptance.{stringPasses}
 use Rattle.name.proofs.string_passes.Statement.{statement}
 use Rattle.name.proofs.string_passes.Tie as tie
 

@@ -1,6 +1,8 @@
+-- In format 0 there are no tags; in format 1 their count follows the records, within the table.
+-- Assumes nothing.
 use native.Mathlib.Omega.{arith}
-use Rattle.name.proofs.Layouts.{format-0, format-1}
 use borrow.Author.Needs.{needs}
+use Rattle.name.proofs.Layouts.{format-0, format-1}
 use Rattle.name.proofs.tag_count.Statement.{statement}
 use Rattle.name.proofs.tag_count.Tie as tie
 
@@ -8,16 +10,22 @@ format-number-requires : tie.Need-format-number-requires
 format-number-requires c κs = search needs
 
 returns : tie.Need-returns
-returns c = let e = format-0 (c .before .before .before .args .table .now) (cc) in omega arith
+returns c =
+    let e = format-0 (c .before .before .before .args .table .now) (cc) in
+    omega arith
 
 records-end-requires : tie.Need-records-end-requires
 records-end-requires c κs = search needs
 
 read-u16-requires : tie.Need-read-u16-requires
-read-u16-requires c κs = let e = format-1 (c .before .before .before .before .args .table .now) (λ z. c .before .if1 .left (cc)) in omega arith
+read-u16-requires c κs =
+    let e = format-1 (c .before .before .before .before .args .table .now) (λ z. c .before .if1 .left (cc)) in
+    omega arith
 
 returns-2 : tie.Need-returns-2
-returns-2 c = let e = format-1 (c .before .before .before .before .before .args .table .now) (λ z. c .before .before .if1 .left (cc)) in cc
+returns-2 c =
+    let e = format-1 (c .before .before .before .before .before .args .table .now) (λ z. c .before .before .if1 .left (cc)) in
+    cc
 
 pub tag-count-spec : {M : Type 1} → statement M
 tag-count-spec =

@@ -1,5 +1,7 @@
-use Rattle.name.specs.Acceptance.{tagFault, when}
+-- The one test is the definition's.
+-- Assumes nothing.
 use borrow.Author.Needs.{needs}
+use Rattle.name.specs.Acceptance.{tagFault, when}
 use Rattle.name.proofs.tag_fault.Statement.{statement}
 use Rattle.name.proofs.tag_fault.Tie as tie
 

@@ -1,7 +1,9 @@
-use borrow.Author.Needs.{needs}
+-- The loop keeps that no tag so far has a fault; where one has, it is the first.
+-- Assumes nothing.
 use Prim.Native.Nat.{_≤_, _-_}
 use mathlib.Core.Path.{_≡_, sym}
 use native.Mathlib.Omega.{arith}
+use borrow.Author.Needs.{needs}
 use Rattle.name.specs.Acceptance.{firstOf, tagFault}
 use Rattle.name.specs.declared.Verdict.the-variants.{Accepted}
 use Rattle.name.proofs.Firsts.{first-none, first-more, first-stop}
@@ -30,7 +32,9 @@ enum-known-r : tie.Need-enum-known-r Inv-loop μ-loop
 enum-known-r c = search needs
 
 returns : tie.Need-returns Inv-loop μ-loop
-returns c = let at = c .before .before .before .before .before in sym (first-stop _ (at .loop .i) _ (omega arith) (at .loop .inv .1) (cc))
+returns c =
+    let at = c .before .before .before .before .before in
+    sym (first-stop _ (at .loop .i) _ (omega arith) (at .loop .inv .1) (cc))
 
 enum-told : tie.Need-enum-told Inv-loop μ-loop
 enum-told c = search needs
@@ -45,7 +49,10 @@ loop-again : tie.Need-loop-again Inv-loop μ-loop
 loop-again c = (search needs, first-more _ _ (c .before .before .before .before .loop .inv .1) (cc))
 
 returns-2 : tie.Need-returns-2 Inv-loop μ-loop
-returns-2 c = let end : c .before .loop .i ≡ c .before .before .tag-count .result = omega arith in let all = rw end at (c .before .loop .inv .1) in cc
+returns-2 c =
+    let end : c .before .loop .i ≡ c .before .before .tag-count .result = omega arith in
+    let all = rw end at (c .before .loop .inv .1) in
+    cc
 
 pub tag-faults-spec : {M : Type 1} → statement M
 tag-faults-spec =

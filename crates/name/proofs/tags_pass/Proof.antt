@@ -1,12 +1,14 @@
+-- Format 0 has no tags, so they end with the records; in format 1 a table that ends before the tag count ends before the tags.
+-- Assumes nothing.
 use Prim.Native.Nat.{_≤_, _<_}
-use lib.ListN.{length}
-use Rattle.name.specs.Layout.{tagsEnd}
-use native.Mathlib.Omega.{arith}
-use borrow.Author.Tests.{lt-ltb, le-ltb}
 use mathlib.Core.Path.{sym}
+use native.Mathlib.Omega.{arith}
+use lib.ListN.{length}
+use borrow.Author.Tests.{lt-ltb, le-ltb}
+use borrow.Author.Needs.{needs}
+use Rattle.name.specs.Layout.{tagsEnd}
 use Rattle.name.specs.Acceptance.{tagsPass}
 use Rattle.name.proofs.Layouts.{format-0, format-1}
-use borrow.Author.Needs.{needs}
 use Rattle.name.proofs.tags_pass.Statement.{statement}
 use Rattle.name.proofs.tags_pass.Tie as tie
 
@@ -15,7 +17,11 @@ format-number-requires c κs = search needs
 
 returns : tie.Need-returns
 unfolding tagsPass
-returns c = let t = c .before .before .before .args .table .now in let e = format-0 t (cc) in let h : tagsEnd t ≤ length t = omega arith in sym (le-ltb _ _ h)
+returns c =
+    let t = c .before .before .before .args .table .now in
+    let e = format-0 t (cc) in
+    let h : tagsEnd t ≤ length t = omega arith in
+    sym (le-ltb _ _ h)
 
 records-end-requires : tie.Need-records-end-requires
 records-end-requires c κs = search needs
@@ -25,7 +31,11 @@ add-if2 c = search needs
 
 returns-2 : tie.Need-returns-2
 unfolding tagsPass
-returns-2 c = let t = c .before .before .before .before .before .args .table .now in let e = format-1 t (λ z. c .before .before .if1 .left (cc)) in let h : length t < tagsEnd t = omega arith in sym (lt-ltb _ _ h)
+returns-2 c =
+    let t = c .before .before .before .before .before .args .table .now in
+    let e = format-1 t (λ z. c .before .before .if1 .left (cc)) in
+    let h : length t < tagsEnd t = omega arith in
+    sym (lt-ltb _ _ h)
 
 add-result : tie.Need-add-result
 add-result c = search needs
@@ -44,7 +54,9 @@ add-result-2 c = search needs
 
 returns-3 : tie.Need-returns-3
 unfolding tagsPass
-returns-3 c = let e = format-1 (c .before .before .before .before .before .before .args .table .now) (λ z. c .before .before .before .if1 .left (cc)) in cc
+returns-3 c =
+    let e = format-1 (c .before .before .before .before .before .before .args .table .now) (λ z. c .before .before .before .if1 .left (cc)) in
+    cc
 
 pub tags-pass-spec : {M : Type 1} → statement M
 tags-pass-spec =

@@ -1,5 +1,7 @@
-use Rattle.name.proofs.Layouts.{format-0, format-1}
+-- In format 0 nothing follows the records; in format 1 the tag count does.
+-- Assumes nothing.
 use borrow.Author.Needs.{needs}
+use Rattle.name.proofs.Layouts.{format-0, format-1}
 use Rattle.name.proofs.tags_start.Statement.{statement}
 use Rattle.name.proofs.tags_start.Tie as tie
 
@@ -10,7 +12,9 @@ records-end-requires : tie.Need-records-end-requires
 records-end-requires c κs = search needs
 
 returns : tie.Need-returns
-returns c = let e = format-0 (c .before .before .before .before .args .table .now) (cc) in cc
+returns c =
+    let e = format-0 (c .before .before .before .before .args .table .now) (cc) in
+    cc
 
 records-end-requires-2 : tie.Need-records-end-requires-2
 records-end-requires-2 c κs = search needs
@@ -19,7 +23,9 @@ add-result : tie.Need-add-result
 add-result c = search needs
 
 returns-2 : tie.Need-returns-2
-returns-2 c = let e = format-1 (c .before .before .before .before .args .table .now) (λ z. c .before .if1 .left (cc)) in cc
+returns-2 c =
+    let e = format-1 (c .before .before .before .before .args .table .now) (λ z. c .before .if1 .left (cc)) in
+    cc
 
 pub tags-start-spec : {M : Type 1} → statement M
 tags-start-spec =

@@ -1,5 +1,7 @@
-use Rattle.name.specs.Layout.{textOf}
+-- Start and length are of the numbers that were read.
+-- Assumes nothing.
 use borrow.Author.Needs.{needs}
+use Rattle.name.specs.Layout.{textOf}
 use Rattle.name.proofs.text_of.Statement.{statement}
 use Rattle.name.proofs.text_of.Tie as tie
 

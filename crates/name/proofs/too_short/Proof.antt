@@ -1,3 +1,5 @@
+-- The test is the definition's.
+-- Assumes nothing.
 use mathlib.Core.Path.{refl}
 use Rattle.name.specs.Acceptance.{tooShort}
 use Rattle.name.proofs.too_short.Statement.{statement}

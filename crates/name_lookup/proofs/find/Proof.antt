@@ -1,10 +1,12 @@
-use borrow.Author.Needs.{needs}
+-- Halving keeps that the key stands nowhere below `low` and nowhere from `high` on; a scan of rising keys then finds the same.
+-- Assumes nothing.
 use Prim.Native.Nat.{_+_, _-_, _/_}
 use mathlib.Core.Path.{_≡_, sym}
-use denote.Ref.{now}
 use native.Mathlib.Omega.{arith}
+use denote.Ref.{now}
+use borrow.Author.Needs.{needs}
 use Rattle.name.specs.Layout.{count, keyOf}
-use Rattle.name.specs.Acceptance.{Framed}
+use Rattle.name.specs.Steps.{Framed}
 use Rattle.name.proofs.Acceptances.{accepted-framed, keys-rise}
 use Rattle.name_lookup.specs.Answers.{recordOf}
 use Rattle.name_lookup.proofs.Halvings.{Rising, rising, Between, start, upward, downward, scan-found, nowhere}
@@ -43,7 +45,9 @@ key-at-requires c κs = omega (arith, framed (c .before .before .before .before 
 
 returns : tie.Need-returns Inv-loop μ-loop
 unfolding recordOf
-returns c = let at = c .before .before .before in sym (scan-found _ _ ((at .loop .low + at .loop .high) / 2) _ (omega arith) (cc) (ordered (at .before .before .before .before)))
+returns c =
+    let at = c .before .before .before in
+    sym (scan-found _ _ ((at .loop .low + at .loop .high) / 2) _ (omega arith) (cc) (ordered (at .before .before .before .before)))
 
 add-low : tie.Need-add-low Inv-loop μ-loop
 add-low c = omega arith
@@ -52,17 +56,23 @@ loop-less : tie.Need-loop-less Inv-loop μ-loop
 loop-less c = search needs
 
 loop-again : tie.Need-loop-again Inv-loop μ-loop
-loop-again c = let at = c .before .before .before .before in upward _ _ (ordered (at .before .before .before .before)) (at .loop .inv) ((at .loop .low + at .loop .high) / 2) (omega arith) (omega arith) (rw (c .before .before .key-at .ensures) at (c .if2 .taken))
+loop-again c =
+    let at = c .before .before .before .before in
+    upward _ _ (ordered (at .before .before .before .before)) (at .loop .inv) ((at .loop .low + at .loop .high) / 2) (omega arith) (omega arith) (rw (c .before .before .key-at .ensures) at (c .if2 .taken))
 
 loop-less-2 : tie.Need-loop-less-2 Inv-loop μ-loop
 loop-less-2 c = search needs
 
 loop-again-2 : tie.Need-loop-again-2 Inv-loop μ-loop
-loop-again-2 c = let at = c .before .before .before .before in downward _ _ (ordered (at .before .before .before .before)) (at .loop .inv) ((at .loop .low + at .loop .high) / 2) (omega arith) (omega arith) (omega arith)
+loop-again-2 c =
+    let at = c .before .before .before .before in
+    downward _ _ (ordered (at .before .before .before .before)) (at .loop .inv) ((at .loop .low + at .loop .high) / 2) (omega arith) (omega arith) (omega arith)
 
 returns-2 : tie.Need-returns-2 Inv-loop μ-loop
 unfolding recordOf
-returns-2 c = let met : c .before .loop .low ≡ c .before .loop .high = omega arith in rw (← c .before .before .before .key-number .ensures) (sym (nowhere _ _ (rw met at (c .before .loop .inv))))
+returns-2 c =
+    let met : c .before .loop .low ≡ c .before .loop .high = omega arith in
+    rw (← c .before .before .before .key-number .ensures) (sym (nowhere _ _ (rw met at (c .before .loop .inv))))
 
 pub find-spec : {M : Type 1} → statement M
 find-spec =

@@ -1,11 +1,13 @@
-use Rattle.name.proofs.Acceptances.{record-inside}
+-- A refusal is passed on; past the check the table is accepted, so halving finds what the scan finds.
+-- Assumes nothing.
 use mathlib.Core.Path.{_≡_, sym}
 use denote.Ref.{now}
+use borrow.Author.Needs.{needs}
 use Rattle.name.specs.Acceptance.{checkOf}
 use Rattle.name.specs.declared.Verdict.the-variants.{Accepted, Refused}
 use Rattle.name.specs.declared.Place.the-variants.{At}
+use Rattle.name.proofs.Acceptances.{record-inside}
 use Rattle.name_lookup.proofs.Lookups.{record-in, lookup-refused, lookup-at, lookup-none}
-use borrow.Author.Needs.{needs}
 use Rattle.name_lookup.proofs.lookup.Statement.{statement}
 use Rattle.name_lookup.proofs.lookup.Tie as tie
 
@@ -16,7 +18,9 @@ enum-known-r : tie.Need-enum-known-r
 enum-known-r c = search needs
 
 returns : tie.Need-returns
-returns c = let e : checkOf (now (c .before .before .before .before .before .args .table)) ≡ Refused (c .before .r .given .0 .0) = cc in sym (lookup-refused _ _ _ _ _ e)
+returns c =
+    let e : checkOf (now (c .before .before .before .before .before .args .table)) ≡ Refused (c .before .r .given .0 .0) = cc in
+    sym (lookup-refused _ _ _ _ _ e)
 
 enum-told : tie.Need-enum-told
 enum-told c = search needs
@@ -42,7 +46,10 @@ enum-told-2 : tie.Need-enum-told-2
 enum-told-2 c = search needs
 
 returns-2 : tie.Need-returns-2
-returns-2 c = let k = c .before in let f = lookup-at _ _ _ _ _ (k .before .before .before .find .ensures) (accepted (k .before .before .before .before)) (at k) in cc
+returns-2 c =
+    let k = c .before in
+    let f = lookup-at _ _ _ _ _ (k .before .before .before .find .ensures) (accepted (k .before .before .before .before)) (at k) in
+    cc
 
 returns-3 : tie.Need-returns-3
 returns-3 c = sym (lookup-none _ _ _ _ _ (c .before .before .find .ensures) (accepted (c .before .before .before)) (cc))

@@ -1,3 +1,5 @@
+-- Each arm is the definition at its case.
+-- Assumes nothing.
 use borrow.Author.Needs.{needs}
 use Rattle.name.proofs.Refusal.place.Statement.{statement}
 use Rattle.name.proofs.Refusal.place.Tie as tie
