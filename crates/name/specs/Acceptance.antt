@@ -55,6 +55,7 @@ unfoldable pub forbidden : ℕ → ℕ → ℕ → ℕ → Bool
 forbidden format tags platform language =
     leb 32768 language && cond (eqb format 0) (ltb platform 240 || ltb 255 platform) (leb (32768 + tags) language)
 
+-- 18 of record i
 unfoldable pub languageRefused : List ℕ → ℕ → Bool
 languageRefused t i = forbidden (format t) (tagCount t) (platform t i) (language t i)
 
@@ -78,11 +79,11 @@ recordFault t i =
     then when (languageRefused t i) (LanguageRefused i)
     then when (notAbove t i) (KeyNotAbove i)
 
--- "16"
+-- "then tags from 0 upward, 16"
 unfoldable pub tagFault : List ℕ → ℕ → Verdict
 tagFault t i = when (stringPasses t (tagAt t i)) (TagString i)
 
--- the whole check
+-- the whole order
 unfoldable pub checkOf : List ℕ → Verdict
 checkOf t =
     layoutFault t

@@ -36,6 +36,7 @@ nameId t i = number 2 t (recordAt i + 6)
 abbrev pub textAt : ℕ → ℕ
 textAt i = recordAt i + 8
 
+-- where the records end
 abbrev pub recordsEnd : List ℕ → ℕ
 recordsEnd t = recordAt (count t)
 
@@ -43,6 +44,7 @@ recordsEnd t = recordAt (count t)
 unfoldable pub tagCount : List ℕ → ℕ
 tagCount t = cond (eqb (format t) 0) 0 (number 2 t (recordsEnd t))
 
+-- where the tags start, where tag i stands, and where the tags end
 unfoldable pub tagsAt : List ℕ → ℕ
 tagsAt t = cond (eqb (format t) 0) (recordsEnd t) (recordsEnd t + 2)
 
@@ -70,5 +72,6 @@ textOf t i = record { start = stringStart t (textAt i); len = stringLength t (te
 abbrev pub keyNumber : ℕ → ℕ → ℕ → ℕ → ℕ
 keyNumber platform encoding language name = ((platform * 65536 + encoding) * 65536 + language) * 65536 + name
 
+-- the key of record i
 unfoldable pub keyOf : List ℕ → ℕ → ℕ
 keyOf t i = keyNumber (platform t i) (encoding t i) (language t i) (nameId t i)
