@@ -1,0 +1,68 @@
+//! A second, independent reader of 'name' tables and reader and writer of
+//! 'OS/2' tables, written from document 01, "The font desk's rules for 'name'
+//! and 'OS/2'", alone.
+//!
+//! It exists to be compared with another program. So it is written for plain
+//! reading in the order of the document, and not for speed.
+//!
+//! * [`name`]: the 'name' check, lookup, PostScript question, version question.
+//! * [`os2`]: the 'OS/2' acceptance, the seven questions, the writer, rewriting.
+//! * [`listing`]: the lines of the listing program.
+//! * [`sfnt`]: cuts the two tables out of a font file (not part of document 01).
+
+#![forbid(unsafe_code)]
+#![warn(missing_docs)]
+
+pub mod listing;
+pub mod name;
+pub mod os2;
+pub mod sfnt;
+
+use std::fmt;
+
+/// A refusal: its number in document 01's table, and what it carries.
+///
+/// 3 carries the first rule broken (1 to 7), 8 the lowest field that does not
+/// fit, 15, 17 and 18 a record, 16 a tag. All others carry nothing.
+#[derive(Clone, Copy, Debug, PartialEq, Eq, Hash)]
+pub struct Refusal {
+    /// The refusal's number.
+    pub number: u32,
+    /// What the refusal carries, if its number carries something.
+    pub carries: Option<u32>,
+}
+
+impl Refusal {
+    /// A refusal that carries nothing.
+    pub const fn plain(number: u32) -> Refusal {
+        Refusal {
+            number,
+            carries: None,
+        }
+    }
+
+    /// A refusal that carries a rule, a field, a record or a tag.
+    pub const fn at(number: u32, place: u32) -> Refusal {
+        Refusal {
+            number,
+            carries: Some(place),
+        }
+    }
+}
+
+/// The words of the listing program: `refused 11` or `refused 17 at 1`.
+impl fmt::Display for Refusal {
+    fn fmt(&self, f: &mut fmt::Formatter<'_>) -> fmt::Result {
+        match self.carries {
+            None => write!(f, "refused {}", self.number),
+            Some(place) => write!(f, "refused {} at {}", self.number, place),
+        }
+    }
+}
+
+impl std::error::Error for Refusal {}
+
+/// The big-endian 16-bit number at `at`. The caller has checked the length.
+fn u16_at(bytes: &[u8], at: usize) -> u16 {
+    u16::from_be_bytes([bytes[at], bytes[at + 1]])
+}

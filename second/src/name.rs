@@ -1,0 +1,395 @@
+//! The 'name' table: the check (10 to 18), the lookup (20), the PostScript
+//! question (21 to 24) and the version question (20, 25).
+
+use crate::{u16_at, Refusal};
+
+/// Bytes before the first record: format, count, storage start.
+const HEADER_BYTES: usize = 6;
+/// Bytes of one name record.
+const RECORD_BYTES: usize = 12;
+/// Bytes of the tag count in format 1.
+const TAG_COUNT_BYTES: usize = 2;
+/// Bytes of one language tag record in format 1.
+const TAG_BYTES: usize = 4;
+/// The first language number that stands for a language tag.
+const FIRST_TAG_LANGUAGE: u16 = 0x8000;
+
+/// The PostScript name record with one byte a character.
+const POSTSCRIPT_ONE_BYTE: Key = (1, 0, 0, 6);
+/// The PostScript name record with two bytes a character.
+const POSTSCRIPT_TWO_BYTE: Key = (3, 1, 0x409, 6);
+/// The version string that counts first, two bytes a character.
+const VERSION_TWO_BYTE: Key = (3, 1, 0x409, 5);
+/// The version string that counts if the other is not there, one byte a
+/// character.
+const VERSION_ONE_BYTE: Key = (1, 0, 0, 5);
+
+/// A record's key: platform, encoding, language, name. Tuples compare in that
+/// order.
+pub type Key = (u16, u16, u16, u16);
+
+/// One name record, as stored.
+#[derive(Clone, Copy, Debug, PartialEq, Eq)]
+pub struct Record {
+    /// Platform number.
+    pub platform: u16,
+    /// Encoding number.
+    pub encoding: u16,
+    /// Language number.
+    pub language: u16,
+    /// Name number.
+    pub name: u16,
+    /// The string's length in bytes.
+    pub length: u16,
+    /// The string's offset from the storage start.
+    pub offset: u16,
+}
+
+impl Record {
+    /// Platform, encoding, language, name.
+    pub fn key(&self) -> Key {
+        (self.platform, self.encoding, self.language, self.name)
+    }
+}
+
+/// One language tag record of format 1, as stored.
+#[derive(Clone, Copy, Debug, PartialEq, Eq)]
+pub struct Tag {
+    /// The string's length in bytes.
+    pub length: u16,
+    /// The string's offset from the storage start.
+    pub offset: u16,
+}
+
+/// The contents of an accepted 'name' table.
+#[derive(Clone, Debug, PartialEq, Eq)]
+pub struct Table {
+    /// 0 or 1.
+    pub format: u16,
+    /// The storage's first byte, from the table's first byte.
+    pub storage_start: usize,
+    /// Bytes from the storage start to the table's end.
+    pub storage_length: usize,
+    /// The name records in their order.
+    pub records: Vec<Record>,
+    /// The language tags in their order; empty in format 0.
+    pub tags: Vec<Tag>,
+}
+
+/// A string's place in the table.
+#[derive(Clone, Copy, Debug, PartialEq, Eq)]
+pub struct Span {
+    /// The string's first byte, from the table's first byte.
+    pub start: usize,
+    /// The string's length in bytes.
+    pub length: usize,
+}
+
+/// A version number: the figures before and after the period.
+#[derive(Clone, Copy, Debug, PartialEq, Eq)]
+pub struct Version {
+    /// The figure before the period, below 65,535.
+    pub major: u32,
+    /// The figure after the period, below 65,535.
+    pub minor: u32,
+}
+
+/// Checks the whole table. Refusals: 10, 11, 12, 13, 14; then record by record
+/// 15, 18, 17; then tag by tag 16.
+pub fn check(bytes: &[u8]) -> Result<(), Refusal> {
+    read(bytes).map(|_| ())
+}
+
+/// Checks the whole table as [`check`] does and gives its contents.
+pub fn read(bytes: &[u8]) -> Result<Table, Refusal> {
+    // 10: under 6 bytes.
+    if bytes.len() < HEADER_BYTES {
+        return Err(Refusal::plain(10));
+    }
+    let format = u16_at(bytes, 0);
+    let count = usize::from(u16_at(bytes, 2));
+    let storage_start = usize::from(u16_at(bytes, 4));
+
+    // 11: format neither 0 nor 1.
+    if format != 0 && format != 1 {
+        return Err(Refusal::plain(11));
+    }
+
+    // 12: name records pass the table's end.
+    let records_end = HEADER_BYTES + RECORD_BYTES * count;
+    if records_end > bytes.len() {
+        return Err(Refusal::plain(12));
+    }
+
+    // 13: tag count or tag records pass the end (format 1).
+    let tags_start = records_end + TAG_COUNT_BYTES;
+    let mut tag_count = 0;
+    let mut front_end = records_end;
+    if format == 1 {
+        if tags_start > bytes.len() {
+            return Err(Refusal::plain(13));
+        }
+        tag_count = usize::from(u16_at(bytes, records_end));
+        front_end = tags_start + TAG_BYTES * tag_count;
+        if front_end > bytes.len() {
+            return Err(Refusal::plain(13));
+        }
+    }
+
+    // 14: storage start before the end of the records and tags, or past the
+    // table's end.
+    if storage_start < front_end || storage_start > bytes.len() {
+        return Err(Refusal::plain(14));
+    }
+    let storage_length = bytes.len() - storage_start;
+
+    // Records from 0 upward, at each 15, 18, 17.
+    let mut records: Vec<Record> = Vec::new();
+    for number in 0..count {
+        let record = record_at(bytes, HEADER_BYTES + RECORD_BYTES * number);
+        // The count is a 16-bit number, so the record's number is one too.
+        let place = number as u32;
+        if passes_storage(record.offset, record.length, storage_length) {
+            return Err(Refusal::at(15, place));
+        }
+        if !language_allowed(format, record.platform, record.language, tag_count) {
+            return Err(Refusal::at(18, place));
+        }
+        if let Some(before) = records.last() {
+            if record.key() <= before.key() {
+                return Err(Refusal::at(17, place));
+            }
+        }
+        records.push(record);
+    }
+
+    // Tags from 0 upward, 16.
+    let mut tags: Vec<Tag> = Vec::new();
+    for number in 0..tag_count {
+        let at = tags_start + TAG_BYTES * number;
+        let tag = Tag {
+            length: u16_at(bytes, at),
+            offset: u16_at(bytes, at + 2),
+        };
+        if passes_storage(tag.offset, tag.length, storage_length) {
+            return Err(Refusal::at(16, number as u32));
+        }
+        tags.push(tag);
+    }
+
+    Ok(Table {
+        format,
+        storage_start,
+        storage_length,
+        records,
+        tags,
+    })
+}
+
+/// The record whose first byte is at `at`.
+fn record_at(bytes: &[u8], at: usize) -> Record {
+    Record {
+        platform: u16_at(bytes, at),
+        encoding: u16_at(bytes, at + 2),
+        language: u16_at(bytes, at + 4),
+        name: u16_at(bytes, at + 6),
+        length: u16_at(bytes, at + 8),
+        offset: u16_at(bytes, at + 10),
+    }
+}
+
+/// Whether offset plus length is above the storage's length, empty strings
+/// included. The sum does not wrap.
+fn passes_storage(offset: u16, length: u16, storage_length: usize) -> bool {
+    usize::from(offset) + usize::from(length) > storage_length
+}
+
+/// Whether a record may carry this language number.
+fn language_allowed(format: u16, platform: u16, language: u16, tag_count: usize) -> bool {
+    if language < FIRST_TAG_LANGUAGE {
+        return true;
+    }
+    if format == 0 {
+        (240..=255).contains(&platform)
+    } else {
+        usize::from(language) < usize::from(FIRST_TAG_LANGUAGE) + tag_count
+    }
+}
+
+/// Looks a key up. Refusals: those of [`check`], then 20 when no record has
+/// the key. A part above 65,535 is found in no record.
+pub fn lookup(
+    bytes: &[u8],
+    platform: u32,
+    encoding: u32,
+    language: u32,
+    name: u32,
+) -> Result<Span, Refusal> {
+    let table = read(bytes)?;
+    for record in &table.records {
+        if u32::from(record.platform) == platform
+            && u32::from(record.encoding) == encoding
+            && u32::from(record.language) == language
+            && u32::from(record.name) == name
+        {
+            return Ok(span(&table, record));
+        }
+    }
+    Err(Refusal::plain(20))
+}
+
+/// The place of a record's string in its table.
+fn span(table: &Table, record: &Record) -> Span {
+    Span {
+        start: table.storage_start + usize::from(record.offset),
+        length: usize::from(record.length),
+    }
+}
+
+/// The place of the string with this key, if a record has it.
+fn find(table: &Table, key: Key) -> Option<Span> {
+    table
+        .records
+        .iter()
+        .find(|record| record.key() == key)
+        .map(|record| span(table, record))
+}
+
+/// The bytes at a string's place.
+fn string(bytes: &[u8], span: Span) -> &[u8] {
+    &bytes[span.start..span.start + span.length]
+}
+
+/// The PostScript name's place, which is that of the record (1, 0, 0, 6).
+/// Refusals: those of [`check`], then 21, 22, 23, 24.
+pub fn postscript(bytes: &[u8]) -> Result<Span, Refusal> {
+    let table = read(bytes)?;
+    let one_byte = find(&table, POSTSCRIPT_ONE_BYTE);
+    let two_byte = find(&table, POSTSCRIPT_TWO_BYTE);
+    let (first, second) = match (one_byte, two_byte) {
+        (None, None) => return Err(Refusal::plain(21)),
+        (Some(_), None) | (None, Some(_)) => return Err(Refusal::plain(22)),
+        (Some(first), Some(second)) => (first, second),
+    };
+
+    // 23: both must be well formed before they are compared. The second has an
+    // even length.
+    let first_characters = one_byte_characters(string(bytes, first));
+    let second_characters = match two_byte_characters(string(bytes, second)) {
+        Some(characters) => characters,
+        None => return Err(Refusal::plain(23)),
+    };
+    if !is_postscript_name(&first_characters) || !is_postscript_name(&second_characters) {
+        return Err(Refusal::plain(23));
+    }
+
+    // 24: the two differ, character by character.
+    if first_characters != second_characters {
+        return Err(Refusal::plain(24));
+    }
+    Ok(first)
+}
+
+/// The characters of a string with one byte a character.
+fn one_byte_characters(string: &[u8]) -> Vec<u16> {
+    string.iter().map(|&byte| u16::from(byte)).collect()
+}
+
+/// The characters of a string with two bytes a character, or nothing when its
+/// length is odd.
+fn two_byte_characters(string: &[u8]) -> Option<Vec<u16>> {
+    if !string.len().is_multiple_of(2) {
+        return None;
+    }
+    Some(string.chunks(2).map(|pair| u16_at(pair, 0)).collect())
+}
+
+/// Whether these are 1 to 63 characters that a PostScript name may hold. A
+/// two-byte character with a high byte other than 0 is above 126.
+fn is_postscript_name(characters: &[u16]) -> bool {
+    (1..=63).contains(&characters.len()) && characters.iter().all(|&c| is_postscript_character(c))
+}
+
+/// Codes 33 to 126 without `[ ] ( ) { } < > / %`, which leaves 84.
+fn is_postscript_character(character: u16) -> bool {
+    match u8::try_from(character) {
+        Ok(code) => (33..=126).contains(&code) && !b"[](){}<>/%".contains(&code),
+        Err(_) => false,
+    }
+}
+
+/// The version number. Refusals: those of [`check`], then 20 when there is
+/// neither version string, then 25 when the one that counts holds no number.
+pub fn version(bytes: &[u8]) -> Result<Version, Refusal> {
+    let table = read(bytes)?;
+    let characters = if let Some(span) = find(&table, VERSION_TWO_BYTE) {
+        match two_byte_characters(string(bytes, span)) {
+            Some(characters) => characters,
+            None => return Err(Refusal::plain(25)),
+        }
+    } else if let Some(span) = find(&table, VERSION_ONE_BYTE) {
+        one_byte_characters(string(bytes, span))
+    } else {
+        return Err(Refusal::plain(20));
+    };
+    match version_in(&characters) {
+        Some(version) => Ok(version),
+        None => Err(Refusal::plain(25)),
+    }
+}
+
+/// The number at the first start, from the left, that yields one. A start that
+/// fails is given up and every later start is tried.
+pub fn version_in(characters: &[u16]) -> Option<Version> {
+    (0..characters.len()).find_map(|start| version_at(characters, start))
+}
+
+/// The number that starts exactly at `start`, if one does.
+fn version_at(characters: &[u16], start: usize) -> Option<Version> {
+    // The first group doesn't follow a digit.
+    if start > 0 && digit(characters[start - 1]).is_some() {
+        return None;
+    }
+    // Digits, a period, digits, each group taken as long as it goes.
+    let (major, after_major) = digits(characters, start)?;
+    if after_major >= characters.len() || characters[after_major] != u16::from(b'.') {
+        return None;
+    }
+    let (minor, _) = digits(characters, after_major + 1)?;
+    // Each group's figure is below 65,535.
+    if major < 65_535 && minor < 65_535 {
+        Some(Version { major, minor })
+    } else {
+        None
+    }
+}
+
+/// The longest group of digits at `start`: its figure and the place after it.
+/// Nothing when no digit stands there. A figure of 65,535 or more is given as
+/// 65,535, since a group may be too long for any number type.
+fn digits(characters: &[u16], start: usize) -> Option<(u32, usize)> {
+    let mut figure = 0;
+    let mut at = start;
+    while at < characters.len() {
+        match digit(characters[at]) {
+            Some(value) => figure = (figure * 10 + value).min(65_535),
+            None => break,
+        }
+        at += 1;
+    }
+    if at == start {
+        None
+    } else {
+        Some((figure, at))
+    }
+}
+
+/// The value of a digit `0` to `9`. A two-byte character is a digit only if
+/// its high byte is 0.
+fn digit(character: u16) -> Option<u32> {
+    if (u16::from(b'0')..=u16::from(b'9')).contains(&character) {
+        Some(u32::from(character - u16::from(b'0')))
+    } else {
+        None
+    }
+}

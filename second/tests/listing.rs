@@ -1,0 +1,167 @@
+//! The listing's lines.
+
+mod common;
+
+use common::*;
+use second::listing;
+
+/// The table of document 01's example.
+fn example() -> Vec<u8> {
+    name0(
+        &[[1, 0, 0, 6, 2, 0], [3, 1, 0x409, 6, 4, 2]],
+        &[0x41, 0x62, 0x00, 0x41, 0x00, 0x62],
+    )
+}
+
+#[test]
+fn example_of_the_document() {
+    assert_eq!(
+        listing::name(&example()),
+        "name format 0 records 2 storage 6\n\
+         0 1 0 0 6 0 2\n\
+         1 3 1 1033 6 2 4\n\
+         postscript Ab\n\
+         version refused 20\n"
+    );
+}
+
+#[test]
+fn refused_tables() {
+    // Both keys (1, 0, 0, 6).
+    let table = name0(
+        &[[1, 0, 0, 6, 2, 0], [1, 0, 0, 6, 4, 2]],
+        &[0x41, 0x62, 0x00, 0x41, 0x00, 0x62],
+    );
+    assert_eq!(listing::name(&table), "refused 17 at 1\n");
+    assert_eq!(listing::name(&words(&[2, 0, 6])), "refused 11\n");
+    assert_eq!(listing::name(&[]), "refused 10\n");
+    assert_eq!(listing::name(&words(&[0, 1, 6])), "refused 12\n");
+    assert_eq!(listing::name(&words(&[1, 0, 6])), "refused 13\n");
+    assert_eq!(listing::name(&words(&[0, 0, 5])), "refused 14\n");
+    let table = name0(&[[0, 0, 0, 0, 1, 0]], &[]);
+    assert_eq!(listing::name(&table), "refused 15 at 0\n");
+    let table = name1(&[], &[[0, 0], [1, 0]], &[]);
+    assert_eq!(listing::name(&table), "refused 16 at 1\n");
+    let table = name0(&[[0, 0, 0x8000, 0, 0, 0]], &[]);
+    assert_eq!(listing::name(&table), "refused 18 at 0\n");
+}
+
+#[test]
+fn empty_table() {
+    assert_eq!(
+        listing::name(&[0, 0, 0, 0, 0, 6]),
+        "name format 0 records 0 storage 0\n\
+         postscript refused 21\n\
+         version refused 20\n"
+    );
+}
+
+#[test]
+fn format_1_lists_no_tags() {
+    let table = name1(&[[3, 1, 0x8001, 5, 3, 1]], &[[1, 0], [0, 4]], b"abcd");
+    assert_eq!(
+        listing::name(&table),
+        "name format 1 records 1 storage 4\n\
+         0 3 1 32769 5 1 3\n\
+         postscript refused 21\n\
+         version refused 20\n"
+    );
+}
+
+#[test]
+fn version_and_postscript_lines() {
+    let table = named(&[
+        ((1, 0, 0, 5), b"Version 1.70000 2.5"),
+        ((1, 0, 0, 6), b"Ab"),
+    ]);
+    assert_eq!(
+        listing::name(&table),
+        "name format 0 records 2 storage 21\n\
+         0 1 0 0 5 0 19\n\
+         1 1 0 0 6 19 2\n\
+         postscript refused 22\n\
+         version 2 5\n"
+    );
+    let end = |strings: &[Named]| {
+        let lines = listing::name(&named(strings));
+        let lines: Vec<&str> = lines.lines().rev().take(2).collect();
+        format!("{}|{}", lines[1], lines[0])
+    };
+    let ps =
+        |first: &[u8], second: &[u8]| end(&[((1, 0, 0, 6), first), ((3, 1, 0x409, 6), second)]);
+    assert_eq!(ps(b"A", b"A"), "postscript refused 23|version refused 20");
+    assert_eq!(
+        ps(b"A", &wide("B")),
+        "postscript refused 24|version refused 20"
+    );
+    assert_eq!(
+        end(&[((1, 0, 0, 5), b"none")]),
+        "postscript refused 21|version refused 25"
+    );
+    // All 84 characters, in two names.
+    let all: String = (33..=126)
+        .map(char::from)
+        .filter(|c| !"[](){}<>/%".contains(*c))
+        .collect();
+    assert_eq!(all.len(), 84);
+    for text in [&all[..42], &all[42..]] {
+        assert_eq!(
+            ps(text.as_bytes(), &wide(text)),
+            format!("postscript {text}|version refused 20")
+        );
+    }
+}
+
+#[test]
+fn too_long() {
+    let mut table = example();
+    table.resize(65_536, 0);
+    assert!(listing::name(&table).starts_with("name format 0 records 2 storage 65506\n"));
+    table.push(0);
+    assert_eq!(listing::name(&table), "too long\n");
+    // Before any refusal.
+    assert_eq!(listing::name(&[0xFF; 65_537]), "too long\n");
+    assert_eq!(listing::name(&[0xFF; 65_536]), "refused 11\n");
+}
+
+#[test]
+fn os2_lines() {
+    let mut table = os2(&[(0, 5), (2, 0xFFFF), (8, 4), (96, 0), (98, 1)]);
+    let lines = listing::os2(5, &table);
+    let lines: Vec<&str> = lines.lines().collect();
+    assert_eq!(lines.len(), 51);
+    assert_eq!(lines[0], "0 5");
+    assert_eq!(lines[1], "1 -1");
+    assert_eq!(lines[2], "2 400");
+    assert_eq!(lines[47], "47 1");
+    assert_eq!(lines[48], "rights preview");
+    assert_eq!(lines[49], "style position 400 100");
+    assert_eq!(lines[50], "optical sizes between 0 and 0.05");
+
+    let lines = listing::os2(1, &table);
+    let lines: Vec<&str> = lines.lines().collect();
+    assert_eq!(lines[39], "39 0");
+    assert_eq!(lines[41], "41 not known");
+    assert_eq!(lines[47], "47 not known");
+    assert_eq!(lines[48], "rights not known");
+    assert_eq!(lines[49], "style position not known");
+    assert_eq!(lines[50], "optical sizes not known");
+
+    put(&mut table, 98, 65_535);
+    assert!(listing::os2(5, &table).ends_with("\noptical sizes every size\n"));
+    put(&mut table, 96, 30);
+    assert!(listing::os2(5, &table).ends_with("\noptical sizes from 1.5 upwards\n"));
+
+    let lines = listing::os2(5, &os2(&[(6, 2)]));
+    assert!(lines.contains("\n38 0\n39 absent\n"));
+    assert!(lines.ends_with(
+        "47 absent\nrights installable\nstyle position 400 62.5\noptical sizes absent\n"
+    ));
+}
+
+#[test]
+fn os2_refused_lines() {
+    assert_eq!(listing::os2(6, &os2(&[])), "refused 1\n");
+    assert_eq!(listing::os2(5, &[]), "refused 2\n");
+    assert_eq!(listing::os2(5, &os2(&[(6, 0)])), "refused 3 at 2\n");
+}

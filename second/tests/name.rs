@@ -1,0 +1,866 @@
+//! The 'name' check, lookup, PostScript question and version question.
+
+mod common;
+
+use common::*;
+use second::name::{self, Span, Version};
+use second::Refusal;
+
+const PS1: (u16, u16, u16, u16) = (1, 0, 0, 6);
+const PS3: (u16, u16, u16, u16) = (3, 1, 0x409, 6);
+const V1: (u16, u16, u16, u16) = (1, 0, 0, 5);
+const V3: (u16, u16, u16, u16) = (3, 1, 0x409, 5);
+
+// ---- the check ----
+
+#[test]
+fn starred_smallest_table() {
+    let table = [0, 0, 0, 0, 0, 6];
+    assert_eq!(name::check(&table), Ok(()));
+    let mut numbers = Numbers::new(1);
+    for _ in 0..1000 {
+        let part = |n: &mut Numbers| n.pick(&[0, 1, 3, 6, 0x409, 65_535, 65_536, u32::MAX]);
+        let key = [
+            part(&mut numbers),
+            part(&mut numbers),
+            part(&mut numbers),
+            part(&mut numbers),
+        ];
+        assert_eq!(name::lookup(&table, key[0], key[1], key[2], key[3]), no(20));
+    }
+    assert_eq!(name::postscript(&table), no(21));
+    assert_eq!(name::version(&table), no(20));
+}
+
+#[test]
+fn refusal_10_under_six_bytes() {
+    for length in 0..6 {
+        assert_eq!(name::check(&vec![0; length]), no(10));
+        // 10 comes before 11.
+        assert_eq!(name::check(&vec![0xFF; length]), no(10));
+    }
+}
+
+#[test]
+fn refusal_11_format() {
+    for format in 0..=u16::MAX {
+        let expected = match format {
+            0 => Ok(()),
+            // No room for the tag count.
+            1 => no(13),
+            _ => no(11),
+        };
+        assert_eq!(name::check(&words(&[format, 0, 6])), expected);
+        if format > 1 {
+            // 11 comes before 12 and 14.
+            assert_eq!(name::check(&words(&[format, 9, 0])), no(11));
+        }
+    }
+}
+
+#[test]
+fn refusal_12_records_pass_the_end() {
+    for length in 6..18 {
+        let mut table = name0(&[[0; 6]], &[]);
+        table.truncate(length);
+        assert_eq!(name::check(&table), no(12), "{length}");
+        // 12 comes before 13 and 14.
+        table[1] = 1;
+        put(&mut table, 4, 0);
+        assert_eq!(name::check(&table), no(12), "{length}");
+    }
+    assert_eq!(name::check(&name0(&[[0; 6]], &[])), Ok(()));
+    assert_eq!(name::check(&words(&[0, 65_535, 6])), no(12));
+}
+
+#[test]
+fn refusal_13_tags_pass_the_end() {
+    // The two settled points.
+    assert_eq!(name::check(&words(&[1, 0, 6])), no(13));
+    assert_eq!(name::check(&words(&[1, 0, 8, 0])), Ok(()));
+    // Half a tag count.
+    assert_eq!(name::check(&[0, 1, 0, 0, 0, 8, 0]), no(13));
+    let whole = name1(&[[0; 6]], &[[0, 0], [0, 0]], &[]);
+    assert_eq!(whole.len(), 28);
+    for length in 18..28 {
+        assert_eq!(name::check(&whole[..length]), no(13), "{length}");
+    }
+    assert_eq!(name::check(&whole), Ok(()));
+    // 13 comes before 14.
+    assert_eq!(name::check(&words(&[1, 0, 0, 1])), no(13));
+    // Format 0 has no tags.
+    assert_eq!(name::check(&words(&[0, 0, 6])), Ok(()));
+}
+
+#[test]
+fn refusal_14_storage_start() {
+    // Format 0: 18 is the end of the records, 20 the table's end.
+    for start in 0..=u16::MAX {
+        let mut table = name0(&[[0; 6]], &[7, 7]);
+        put(&mut table, 4, start);
+        let expected = if (18..=20).contains(&start) {
+            Ok(())
+        } else {
+            no(14)
+        };
+        assert_eq!(name::check(&table), expected, "{start}");
+    }
+    // Format 1: 24 is the end of the tags, 26 the table's end.
+    for start in 0..=u16::MAX {
+        let mut table = name1(&[[0; 6]], &[[0, 0]], &[7, 7]);
+        put(&mut table, 4, start);
+        let expected = if (24..=26).contains(&start) {
+            Ok(())
+        } else {
+            no(14)
+        };
+        assert_eq!(name::check(&table), expected, "{start}");
+    }
+    // 14 comes before 15.
+    let mut table = name0(&[[0, 0, 0, 0, 9, 9]], &[]);
+    put(&mut table, 4, 17);
+    assert_eq!(name::check(&table), no(14));
+    put(&mut table, 4, 18);
+    assert_eq!(name::check(&table), no_at(15, 0));
+}
+
+#[test]
+fn refusal_15_string_passes_storage() {
+    // A string ending on the last storage byte: accepted; one longer: 15.
+    assert_eq!(name::check(&name0(&[[0, 0, 0, 0, 3, 2]], &[0; 5])), Ok(()));
+    assert_eq!(
+        name::check(&name0(&[[0, 0, 0, 0, 4, 2]], &[0; 5])),
+        no_at(15, 0)
+    );
+    // Empty strings: the offset may equal the storage's length, not pass it.
+    assert_eq!(name::check(&name0(&[[0, 0, 0, 0, 0, 5]], &[0; 5])), Ok(()));
+    assert_eq!(
+        name::check(&name0(&[[0, 0, 0, 0, 0, 6]], &[0; 5])),
+        no_at(15, 0)
+    );
+    // 65535 plus 2 doesn't wrap.
+    assert_eq!(
+        name::check(&name0(&[[0, 0, 0, 0, 2, 65_535]], &[0; 5])),
+        no_at(15, 0)
+    );
+    assert_eq!(
+        name::check(&name0(&[[0, 0, 0, 0, 65_535, 2]], &[0; 5])),
+        no_at(15, 0)
+    );
+    // The largest sum, on a storage that holds it and on one that doesn't.
+    let record = [0, 0, 0, 0, 65_535, 65_535];
+    assert_eq!(name::check(&name0(&[record], &vec![0; 131_070])), Ok(()));
+    assert_eq!(
+        name::check(&name0(&[record], &vec![0; 131_069])),
+        no_at(15, 0)
+    );
+    // Storage counts from its start, not from the end of the records.
+    let mut table = name0(&[[0, 0, 0, 0, 3, 2]], &[0; 5]);
+    put(&mut table, 4, 19);
+    assert_eq!(name::check(&table), no_at(15, 0));
+}
+
+#[test]
+fn refusal_16_tag_passes_storage() {
+    let table = |tags: &[[u16; 2]]| name1(&[[0; 6]], tags, &[0; 5]);
+    assert_eq!(name::check(&table(&[[3, 2], [0, 5], [5, 0]])), Ok(()));
+    assert_eq!(name::check(&table(&[[3, 2], [4, 2]])), no_at(16, 1));
+    assert_eq!(name::check(&table(&[[0, 6], [4, 2]])), no_at(16, 0));
+    assert_eq!(
+        name::check(&table(&[[0, 0], [0, 0], [2, 65_535]])),
+        no_at(16, 2)
+    );
+    // Every record comes before every tag.
+    let late = name1(&[[0; 6], [0; 6]], &[[9, 9]], &[]);
+    assert_eq!(name::check(&late), no_at(17, 1));
+}
+
+#[test]
+fn refusal_17_order_of_keys() {
+    let two = |a: [u16; 4], b: [u16; 4]| {
+        name0(
+            &[
+                [a[0], a[1], a[2], a[3], 0, 0],
+                [b[0], b[1], b[2], b[3], 0, 0],
+            ],
+            &[],
+        )
+    };
+    for part in 0..4 {
+        let low = [5, 5, 5, 5];
+        let mut high = low;
+        high[part] = 6;
+        // A later part doesn't outweigh an earlier one.
+        high[part + 1..].fill(0);
+        assert_eq!(name::check(&two(low, high)), Ok(()));
+        assert_eq!(name::check(&two(high, low)), no_at(17, 1));
+    }
+    assert_eq!(name::check(&two([5; 4], [5; 4])), no_at(17, 1));
+    // Each record is compared with the one before it.
+    let three = name0(
+        &[[1, 0, 0, 0, 0, 0], [3, 0, 0, 0, 0, 0], [2, 0, 0, 0, 0, 0]],
+        &[],
+    );
+    assert_eq!(name::check(&three), no_at(17, 2));
+    // Length and offset are no part of the key.
+    let same = name0(&[[1, 1, 1, 1, 0, 0], [1, 1, 1, 1, 1, 1]], &[0, 0]);
+    assert_eq!(name::check(&same), no_at(17, 1));
+}
+
+#[test]
+fn refusal_18_language() {
+    // Format 0: 0x8000 and more only for platforms 240 to 255.
+    for platform in 0..=u16::MAX {
+        let table = |language| name0(&[[platform, 0, language, 0, 0, 0]], &[]);
+        let high = if (240..=255).contains(&platform) {
+            Ok(())
+        } else {
+            no_at(18, 0)
+        };
+        assert_eq!(name::check(&table(0x7FFF)), Ok(()));
+        assert_eq!(name::check(&table(0x8000)), high);
+        assert_eq!(name::check(&table(0xFFFF)), high);
+    }
+    // Format 1: below 0x8000 plus the tag count, on every platform.
+    for platform in [0, 1, 3, 239, 240, 255, 256, 65_535] {
+        for tag_count in 0..4 {
+            let tags = vec![[0, 0]; tag_count];
+            for language in [0x7FFF, 0x8000, 0x8001, 0x8002, 0x8003, 0x8004, 0xFFFF] {
+                let table = name1(&[[platform, 0, language, 0, 0, 0]], &tags, &[]);
+                let allowed = i32::from(language) - 0x8000 < tag_count as i32;
+                let expected = if allowed { Ok(()) } else { no_at(18, 0) };
+                assert_eq!(name::check(&table), expected);
+            }
+        }
+    }
+}
+
+#[test]
+fn refusal_18_tag_count_does_not_wrap() {
+    // 0x8000 tags are too many for any storage start, so 14 comes first; the
+    // largest tag count that can be accepted is 16,381.
+    let tags = vec![[0, 0]; 16_378];
+    let last = 0x8000 + 16_377;
+    let table = name1(&[[9, 9, last, 9, 0, 0]], &tags, &[]);
+    assert_eq!(name::check(&table), Ok(()));
+    let table = name1(&[[9, 9, last + 1, 9, 0, 0]], &tags, &[]);
+    assert_eq!(name::check(&table), no_at(18, 0));
+    let most = name1(&[], &vec![[0, 0]; 16_381], &[]);
+    assert_eq!(most.len(), 65_532);
+    assert_eq!(name::check(&most), Ok(()));
+    let mut more = name1(&[], &vec![[0, 0]; 16_382], &[]);
+    assert_eq!(name::check(&more), no(14));
+    put(&mut more, 4, 65_535);
+    assert_eq!(name::check(&more), no(14));
+}
+
+#[test]
+fn order_at_one_record() {
+    // All three at record 1: 15, then 18, then 17.
+    let table = |record| name0(&[[5, 0, 0, 0, 0, 0], record], &[]);
+    assert_eq!(name::check(&table([1, 0, 0x8000, 0, 1, 0])), no_at(15, 1));
+    assert_eq!(name::check(&table([1, 0, 0x8000, 0, 0, 0])), no_at(18, 1));
+    assert_eq!(name::check(&table([1, 0, 0, 0, 0, 0])), no_at(17, 1));
+    // An earlier record's later number comes before a later record's 15.
+    let table = name0(
+        &[[1, 0, 0, 0, 0, 0], [1, 0, 0, 0, 0, 0], [2, 0, 0, 0, 9, 0]],
+        &[],
+    );
+    assert_eq!(name::check(&table), no_at(17, 1));
+}
+
+#[test]
+fn most_records() {
+    let records: Vec<Entry> = (0..5460).map(|n| [0, 0, 0, n, 0, 0]).collect();
+    assert_eq!(name::check(&name0(&records, &[])), Ok(()));
+    let records: Vec<Entry> = (0..5461).map(|n| [0, 0, 0, n, 0, 0]).collect();
+    let mut table = name0(&records, &[]);
+    assert_eq!(table.len(), 65_538);
+    for start in [0, 2, 6, 65_535] {
+        put(&mut table, 4, start);
+        assert_eq!(name::check(&table), no(14));
+    }
+}
+
+/// The first refusal, found another way: every condition of the records and
+/// tags that holds is collected with its place in the order, and the least is
+/// taken.
+fn naive_check(bytes: &[u8]) -> Result<(), Refusal> {
+    let word = |at: usize| -> Option<i64> {
+        let pair: [u8; 2] = bytes.get(at..at + 2)?.try_into().ok()?;
+        Some(i64::from(i16::from_be_bytes(pair)).rem_euclid(65_536))
+    };
+    let (Some(format), Some(count), Some(start)) = (word(0), word(2), word(4)) else {
+        return no(10);
+    };
+    if ![0, 1].contains(&format) {
+        return no(11);
+    }
+    let mut front = 6;
+    for _ in 0..count {
+        front += 12;
+    }
+    if bytes.get(..front).is_none() {
+        return no(12);
+    }
+    let tags_at = front + 2;
+    let mut tag_count = 0;
+    if format == 1 {
+        let Some(stored) = word(front) else {
+            return no(13);
+        };
+        tag_count = stored;
+        front += 2 + 4 * stored as usize;
+        if bytes.get(..front).is_none() {
+            return no(13);
+        }
+    }
+    let Some(storage) = bytes.get(start as usize..) else {
+        return no(14);
+    };
+    if (start as usize) < front {
+        return no(14);
+    }
+    let lies = |offset: i64, length: i64| {
+        storage
+            .get(offset as usize..)
+            .and_then(|rest| rest.get(..length as usize))
+            .is_some()
+    };
+    let mut broken: Vec<(u8, u32, u8, u32)> = Vec::new();
+    let mut keys: Vec<u64> = Vec::new();
+    for n in 0..count {
+        let w: Vec<i64> = (0..6)
+            .map(|part| word(6 + 12 * n as usize + 2 * part).unwrap())
+            .collect();
+        let n = n as u32;
+        keys.push(w[..4].iter().fold(0, |key, &part| key << 16 | part as u64));
+        if !lies(w[5], w[4]) {
+            broken.push((0, n, 0, 15));
+        }
+        let high = w[2] & 0x8000 != 0;
+        let private = w[0] >> 4 == 15;
+        if format == 0 && high && !private {
+            broken.push((0, n, 1, 18));
+        }
+        if format == 1 && high && (w[2] & 0x7FFF) >= tag_count {
+            broken.push((0, n, 1, 18));
+        }
+    }
+    for n in 1..keys.len() {
+        if keys[n - 1] >= keys[n] {
+            broken.push((0, n as u32, 2, 17));
+        }
+    }
+    for n in 0..tag_count {
+        let at = tags_at + 4 * n as usize;
+        if !lies(word(at + 2).unwrap(), word(at).unwrap()) {
+            broken.push((1, n as u32, 0, 16));
+        }
+    }
+    broken.sort();
+    match broken.first() {
+        Some(&(_, place, _, number)) => no_at(number, place),
+        None => Ok(()),
+    }
+}
+
+/// A small table, often accepted and often with one thing wrong.
+fn any_table(numbers: &mut Numbers) -> Vec<u8> {
+    let storage: Vec<u8> = (0..numbers.below(12))
+        .map(|_| numbers.pick(b"\0\0.0159 Aa"))
+        .collect();
+    let size = storage.len() as u64 + 1;
+    let mut records: Vec<Entry> = Vec::new();
+    for _ in 0..numbers.below(5) {
+        let offset = numbers.below(size);
+        let length = numbers.below(size - offset);
+        records.push([
+            numbers.pick(&[1, 1, 3, 3, 240]),
+            numbers.pick(&[0, 0, 1, 1]),
+            numbers.pick(&[0, 0, 0x409, 0x409, 0x8000, 0x8001]),
+            numbers.pick(&[5, 6, 6, 7]),
+            length as u16,
+            offset as u16,
+        ]);
+    }
+    if numbers.below(5) > 0 {
+        records.sort();
+        records.dedup_by_key(|record| (record[0], record[1], record[2], record[3]));
+    }
+    let mut tags: Vec<[u16; 2]> = Vec::new();
+    for _ in 0..numbers.below(4) {
+        let offset = numbers.below(size);
+        tags.push([numbers.below(size - offset) as u16, offset as u16]);
+    }
+    let mut table = if numbers.below(2) == 0 {
+        name0(&records, &storage)
+    } else {
+        name1(&records, &tags, &storage)
+    };
+    // Spoil some tables: a byte, the storage start, or the length.
+    match numbers.below(6) {
+        0 => {
+            let at = numbers.below(table.len() as u64) as usize;
+            table[at] = numbers.pick(&[0, 1, 2, 5, 6, 0x80, 0xFF]);
+        }
+        1 => {
+            let start = numbers.below(table.len() as u64 + 3);
+            put(&mut table, 4, start as u16);
+        }
+        2 => {
+            let length = numbers.below(table.len() as u64 + 1);
+            table.truncate(length as usize);
+        }
+        _ => {}
+    }
+    table
+}
+
+#[test]
+fn check_agrees_with_the_naive_check() {
+    let mut numbers = Numbers::new(2);
+    let mut seen = std::collections::BTreeMap::new();
+    for _ in 0..300_000 {
+        let table = any_table(&mut numbers);
+        let result = name::check(&table);
+        assert_eq!(result, naive_check(&table), "{table:02x?}");
+        *seen
+            .entry(result.err().map_or(0, |r| r.number))
+            .or_insert(0) += 1;
+    }
+    for number in [0, 10, 11, 12, 13, 14, 15, 16, 17, 18] {
+        assert!(seen.get(&number).is_some_and(|&n| n > 50), "{seen:?}");
+    }
+}
+
+#[test]
+fn every_question_passes_on_the_refusal() {
+    let mut numbers = Numbers::new(3);
+    for _ in 0..50_000 {
+        let table = any_table(&mut numbers);
+        if let Err(refusal) = name::check(&table) {
+            assert_eq!(name::read(&table), Err(refusal));
+            assert_eq!(name::lookup(&table, 1, 0, 0, 6), Err(refusal));
+            assert_eq!(name::lookup(&table, 65_536, 0, 0, 0), Err(refusal));
+            assert_eq!(name::postscript(&table), Err(refusal));
+            assert_eq!(name::version(&table), Err(refusal));
+        }
+    }
+}
+
+// ---- the lookup ----
+
+#[test]
+fn lookup_counts_from_the_first_byte() {
+    let table = name0(
+        &[[1, 0, 0, 6, 2, 0], [3, 1, 0x409, 6, 4, 2]],
+        &[0x41, 0x62, 0, 0x41, 0, 0x62],
+    );
+    let at = |start, length| Ok(Span { start, length });
+    assert_eq!(name::lookup(&table, 1, 0, 0, 6), at(30, 2));
+    assert_eq!(name::lookup(&table, 3, 1, 0x409, 6), at(32, 4));
+    assert_eq!(name::lookup(&table, 3, 1, 0x409, 5), no(20));
+    // Parts above 65,535 don't wrap.
+    assert_eq!(name::lookup(&table, 65_537, 0, 0, 6), no(20));
+    assert_eq!(name::lookup(&table, 1, 65_536, 0, 6), no(20));
+    assert_eq!(name::lookup(&table, 1, 0, 65_536, 6), no(20));
+    assert_eq!(name::lookup(&table, 1, 0, 0, 65_542), no(20));
+    assert_eq!(name::lookup(&table, u32::MAX, 0, 0, 6), no(20));
+}
+
+#[test]
+fn lookup_agrees_with_a_map() {
+    let mut numbers = Numbers::new(4);
+    for _ in 0..20_000 {
+        let table = any_table(&mut numbers);
+        let Ok(contents) = name::read(&table) else {
+            continue;
+        };
+        let start = usize::from(u16::from_be_bytes([table[4], table[5]]));
+        let map: std::collections::BTreeMap<_, _> = contents
+            .records
+            .iter()
+            .map(|r| (r.key(), (start + r.offset as usize, r.length as usize)))
+            .collect();
+        assert_eq!(map.len(), contents.records.len());
+        for platform in [0, 1, 3, 240] {
+            for encoding in [0, 1] {
+                for language in [0, 0x409, 0x8000, 0x8001] {
+                    for number in [5, 6, 7] {
+                        let expected = match map.get(&(platform, encoding, language, number)) {
+                            Some(&(start, length)) => Ok(Span { start, length }),
+                            None => no(20),
+                        };
+                        let result = name::lookup(
+                            &table,
+                            platform.into(),
+                            encoding.into(),
+                            language.into(),
+                            number.into(),
+                        );
+                        assert_eq!(result, expected);
+                        if let Ok(span) = result {
+                            assert!(span.start + span.length <= table.len());
+                        }
+                    }
+                }
+            }
+        }
+    }
+}
+
+#[test]
+fn strings_may_overlap_and_be_empty() {
+    let table = name0(
+        &[[0, 0, 0, 0, 4, 0], [0, 0, 0, 1, 3, 1], [0, 0, 0, 2, 0, 4]],
+        b"abcd",
+    );
+    let at = |start, length| Ok(Span { start, length });
+    assert_eq!(name::lookup(&table, 0, 0, 0, 0), at(42, 4));
+    assert_eq!(name::lookup(&table, 0, 0, 0, 1), at(43, 3));
+    assert_eq!(name::lookup(&table, 0, 0, 0, 2), at(46, 0));
+}
+
+#[test]
+fn a_gap_before_the_storage() {
+    // Storage start 20 where the records end at 18.
+    let mut table = name0(&[[1, 0, 0, 5, 3, 1]], b"--x1.2");
+    put(&mut table, 4, 20);
+    let at = Ok(Span {
+        start: 21,
+        length: 3,
+    });
+    assert_eq!(name::lookup(&table, 1, 0, 0, 5), at);
+    assert_eq!(name::version(&table), found(1, 2));
+}
+
+// ---- the PostScript question ----
+
+/// The PostScript answer for two strings; the first starts at 30.
+fn postscript(first: &[u8], second: &[u8]) -> Result<Span, Refusal> {
+    name::postscript(&named(&[(PS1, first), (PS3, second)]))
+}
+
+fn first_string(length: usize) -> Result<Span, Refusal> {
+    Ok(Span { start: 30, length })
+}
+
+#[test]
+fn postscript_21_and_22() {
+    assert_eq!(name::postscript(&named(&[])), no(21));
+    assert_eq!(name::postscript(&named(&[(PS1, b"Ab")])), no(22));
+    assert_eq!(name::postscript(&named(&[(PS3, &wide("Ab"))])), no(22));
+    // 22 comes before 23.
+    assert_eq!(name::postscript(&named(&[(PS1, b"")])), no(22));
+    assert_eq!(name::postscript(&named(&[(PS3, b"x")])), no(22));
+    // Only two records count.
+    let others = named(&[
+        ((0, 3, 0, 6), &wide("Ab")),
+        ((1, 0, 1, 6), b"Ab"),
+        ((1, 1, 0, 6), b"Ab"),
+        ((3, 0, 0x409, 6), &wide("Ab")),
+        ((3, 1, 0x407, 6), &wide("Ab")),
+        ((3, 1, 0x409, 4), &wide("Ab")),
+    ]);
+    assert_eq!(name::postscript(&others), no(21));
+}
+
+#[test]
+fn postscript_answer_is_the_first_string() {
+    assert_eq!(postscript(b"Ab", &wide("Ab")), first_string(2));
+    assert_eq!(postscript(b"!", &wide("!")), first_string(1));
+}
+
+#[test]
+fn postscript_lengths() {
+    for length in 0..70 {
+        let text = "a".repeat(length);
+        let expected = if (1..=63).contains(&length) {
+            first_string(length)
+        } else {
+            no(23)
+        };
+        assert_eq!(postscript(text.as_bytes(), &wide(&text)), expected);
+    }
+    // One good, one too long or empty: 23, not 24.
+    assert_eq!(postscript(b"a", &wide(&"a".repeat(64))), no(23));
+    assert_eq!(postscript("a".repeat(64).as_bytes(), &wide("a")), no(23));
+    assert_eq!(postscript(b"", &wide("a")), no(23));
+    assert_eq!(postscript(b"a", b""), no(23));
+}
+
+#[test]
+fn postscript_characters() {
+    let forbidden = ['[', ']', '(', ')', '{', '}', '<', '>', '/', '%'];
+    let mut allowed = 0;
+    for code in 0..=255_u8 {
+        let good = char::from(code).is_ascii_graphic() && !forbidden.contains(&char::from(code));
+        allowed += u32::from(good);
+        let expected = if good { first_string(3) } else { no(23) };
+        let first = [b'a', code, b'z'];
+        let second = [0, b'a', 0, code, 0, b'z'];
+        assert_eq!(postscript(&first, &second), expected, "{code}");
+        // Either string alone being ill-formed is enough.
+        if !good {
+            assert_eq!(postscript(&first, &wide("abz")), no(23));
+            assert_eq!(postscript(b"abz", &second), no(23));
+        } else if code != b'b' {
+            assert_eq!(postscript(&first, &wide("abz")), no(24));
+            assert_eq!(postscript(b"abz", &second), no(24));
+        }
+        // Each high byte is 0.
+        let expected = if code == 0 { first_string(2) } else { no(23) };
+        assert_eq!(postscript(b"ab", &[0, b'a', code, b'b']), expected);
+    }
+    assert_eq!(allowed, 84);
+}
+
+#[test]
+fn postscript_odd_second_string() {
+    assert_eq!(postscript(b"Ab", &[0, b'A', 0, b'b', 0]), no(23));
+    assert_eq!(postscript(b"Ab", &[0, b'A', 0]), no(23));
+    assert_eq!(postscript(b"A", b"A"), no(23));
+}
+
+#[test]
+fn postscript_24_compares_characters() {
+    assert_eq!(postscript(b"Ab", &wide("AB")), no(24));
+    assert_eq!(postscript(b"Ab", &wide("Abc")), no(24));
+    assert_eq!(postscript(b"Abc", &wide("Ab")), no(24));
+    assert_eq!(postscript(b"Ab", &wide("Ab")), first_string(2));
+    // 23 comes before 24.
+    assert_eq!(postscript(b"A b", &wide("x")), no(23));
+}
+
+#[test]
+fn postscript_strings_may_share_storage() {
+    // "A" within 00 41.
+    let table = name0(&[[1, 0, 0, 6, 1, 1], [3, 1, 0x409, 6, 2, 0]], &[0, b'A']);
+    let at = Ok(Span {
+        start: 31,
+        length: 1,
+    });
+    assert_eq!(name::postscript(&table), at);
+}
+
+// ---- the version question ----
+
+fn found(major: u32, minor: u32) -> Result<Version, Refusal> {
+    Ok(Version { major, minor })
+}
+
+/// The answer for a text, asked in both widths, which must agree.
+fn version(text: &str) -> Result<Version, Refusal> {
+    let one = name::version(&named(&[(V1, text.as_bytes())]));
+    let two = name::version(&named(&[(V3, &wide(text))]));
+    assert_eq!(one, two, "{text}");
+    one
+}
+
+#[test]
+fn starred_versions() {
+    assert_eq!(version("Version 1.70000 2.5"), found(2, 5));
+    assert_eq!(version("Version 65535.1"), no(25));
+    assert_eq!(version("Version 65534.1"), found(65_534, 1));
+}
+
+#[test]
+fn settled_versions() {
+    assert_eq!(version("70000.1.2"), found(1, 2));
+    assert_eq!(version("1.70000.5"), no(25));
+    assert_eq!(version("70000.1"), no(25));
+}
+
+#[test]
+fn version_edges() {
+    assert_eq!(version(""), no(25));
+    assert_eq!(version("1"), no(25));
+    assert_eq!(version("."), no(25));
+    assert_eq!(version("1."), no(25));
+    assert_eq!(version(".1"), no(25));
+    assert_eq!(version("1..2"), no(25));
+    assert_eq!(version("1 .2"), no(25));
+    assert_eq!(version("1. 2"), no(25));
+    assert_eq!(version("1,2"), no(25));
+    assert_eq!(version("0.0"), found(0, 0));
+    assert_eq!(version("1.2"), found(1, 2));
+    assert_eq!(version("x1.2y"), found(1, 2));
+    assert_eq!(version(".1.2"), found(1, 2));
+    assert_eq!(version("1.2.3"), found(1, 2));
+    assert_eq!(version("1..2.3"), found(2, 3));
+    assert_eq!(version("1.65534"), found(1, 65_534));
+    assert_eq!(version("1.65535"), no(25));
+    assert_eq!(version("1.65536"), no(25));
+    assert_eq!(version("65536.1"), no(25));
+    assert_eq!(version("65535.1.65535.2.3"), found(2, 3));
+    assert_eq!(version("-1.5"), found(1, 5));
+    assert_eq!(version("1.5e9"), found(1, 5));
+    assert_eq!(version("Version 2.37; 9.9"), found(2, 37));
+}
+
+#[test]
+fn version_leading_zeros() {
+    assert_eq!(version("001.005"), found(1, 5));
+    assert_eq!(version("0000065534.0000065534"), found(65_534, 65_534));
+    assert_eq!(version("0000065535.1"), no(25));
+    let zeros = "0".repeat(1000);
+    assert_eq!(version(&format!("{zeros}7.{zeros}8")), found(7, 8));
+    let nines = "9".repeat(1000);
+    assert_eq!(version(&format!("{nines}.{nines}.{zeros}.4")), found(0, 4));
+    // Figures whose low bits alone would seem to fit.
+    assert_eq!(version("65536.1"), no(25));
+    assert_eq!(version("4294967297.1"), no(25));
+    assert_eq!(version("18446744073709551617.1"), no(25));
+    assert_eq!(version("340282366920938463463374607431768211457.1"), no(25));
+}
+
+#[test]
+fn longest_version_string() {
+    let text = "1".repeat(65_535);
+    assert_eq!(name::version(&named(&[(V1, text.as_bytes())])), no(25));
+    let text = "x".repeat(65_532) + "2.3";
+    assert_eq!(name::version(&named(&[(V1, text.as_bytes())])), found(2, 3));
+    let text = "70000.".repeat(10_000) + "2.3";
+    assert_eq!(name::version(&named(&[(V1, text.as_bytes())])), found(2, 3));
+}
+
+#[test]
+fn version_which_string_counts() {
+    let two = wide("3.4");
+    assert_eq!(
+        name::version(&named(&[(V1, b"1.2"), (V3, &two)])),
+        found(3, 4)
+    );
+    assert_eq!(name::version(&named(&[(V1, b"1.2")])), found(1, 2));
+    assert_eq!(name::version(&named(&[(V3, &two)])), found(3, 4));
+    assert_eq!(name::version(&named(&[])), no(20));
+    // The first counts when it is there, even without a number.
+    assert_eq!(
+        name::version(&named(&[(V1, b"1.2"), (V3, &wide("none"))])),
+        no(25)
+    );
+    assert_eq!(name::version(&named(&[(V1, b"1.2"), (V3, b"")])), no(25));
+    assert_eq!(name::version(&named(&[(V1, b"1.2"), (V3, b"x")])), no(25));
+    // Only two records count.
+    let others = named(&[
+        ((0, 3, 0, 5), &two),
+        ((1, 0, 1, 5), b"1.2"),
+        ((3, 0, 0x409, 5), &two),
+        ((3, 1, 0x407, 5), &two),
+        ((3, 10, 0x409, 5), &two),
+    ]);
+    assert_eq!(name::version(&others), no(20));
+}
+
+#[test]
+fn version_two_byte_characters() {
+    // Odd length gives 25, whatever is in it.
+    let mut odd = wide("1.2");
+    odd.push(0);
+    assert_eq!(name::version(&named(&[(V3, &odd)])), no(25));
+    // One-byte strings may be odd: "1.2" above is.
+    let two = |string: &[u8]| name::version(&named(&[(V3, string)]));
+    // A character with a high byte is neither digit nor period.
+    assert_eq!(two(&[0, b'1', 1, b'.', 0, b'2']), no(25));
+    assert_eq!(two(&[1, b'1', 0, b'.', 0, b'2']), no(25));
+    assert_eq!(two(&[0, b'1', 0, b'.', 1, b'2']), no(25));
+    // Since it is no digit, a digit after it may start a number.
+    assert_eq!(two(&[1, b'7', 0, b'1', 0, b'.', 0, b'2']), found(1, 2));
+    // And it ends the second group.
+    assert_eq!(two(&[0, b'1', 0, b'.', 0, b'2', 1, b'3']), found(1, 2));
+    // Bytes are not looked at across characters.
+    assert_eq!(two(b"1.2."), no(25));
+    // In a one-byte string a zero byte is a character and no digit.
+    assert_eq!(name::version(&named(&[(V1, &wide("1.2"))])), no(25));
+    assert_eq!(name::version(&named(&[(V1, b"7\x001.2")])), found(1, 2));
+}
+
+/// The version found another way: the text is cut into its longest runs of
+/// digits; a number is two neighbouring runs with one period between them.
+fn naive_version(characters: &[u16]) -> Option<(u32, u32)> {
+    let text: Vec<char> = characters
+        .iter()
+        .map(|&c| if c < 128 { char::from(c as u8) } else { '?' })
+        .collect();
+    let mut runs: Vec<(usize, String)> = Vec::new();
+    for (at, &c) in text.iter().enumerate() {
+        if !c.is_ascii_digit() {
+            continue;
+        }
+        match runs.last_mut() {
+            Some((start, run)) if *start + run.len() == at => run.push(c),
+            _ => runs.push((at, c.to_string())),
+        }
+    }
+    for pair in runs.windows(2) {
+        let (start, first) = &pair[0];
+        let (next, second) = &pair[1];
+        let period = start + first.len();
+        if *next != period + 1 || text[period] != '.' {
+            continue;
+        }
+        // No group in these tests is too long for 128 bits.
+        let major: u128 = first.parse().unwrap();
+        let minor: u128 = second.parse().unwrap();
+        if major < 65_535 && minor < 65_535 {
+            return Some((major as u32, minor as u32));
+        }
+    }
+    None
+}
+
+#[test]
+fn version_agrees_with_the_naive_version() {
+    // All texts of up to seven characters.
+    let alphabet = [b'0', b'7', b'.', b' '].map(u16::from);
+    for length in 0..=7 {
+        for mut number in 0..4_usize.pow(length) {
+            let mut text = Vec::new();
+            for _ in 0..length {
+                text.push(alphabet[number % 4]);
+                number /= 4;
+            }
+            let result = name::version_in(&text).map(|v| (v.major, v.minor));
+            assert_eq!(result, naive_version(&text), "{text:?}");
+        }
+    }
+    // Longer ones from pieces.
+    let pieces: [&[u16]; 14] = [
+        &[0x31],
+        &[0x30, 0x30],
+        &[0x36, 0x35, 0x35, 0x33, 0x34],
+        &[0x36, 0x35, 0x35, 0x33, 0x35],
+        &[0x37, 0x30, 0x30, 0x30, 0x30],
+        &[0x32, 0x35],
+        &[0x2E],
+        &[0x2E],
+        &[0x2E],
+        &[0x2E, 0x2E],
+        &[0x20],
+        &[0x131],
+        &[0x12E],
+        &[0x78],
+    ];
+    let mut numbers = Numbers::new(5);
+    let mut yes = 0;
+    for _ in 0..300_000 {
+        let mut text = Vec::new();
+        for _ in 0..numbers.below(8) {
+            text.extend(numbers.pick(&pieces));
+        }
+        let expected = naive_version(&text);
+        let result = name::version_in(&text).map(|v| (v.major, v.minor));
+        assert_eq!(result, expected, "{text:x?}");
+        // Through a table too.
+        let bytes = words(&text);
+        let result = name::version(&named(&[(V3, &bytes)]));
+        let expected = match expected {
+            Some((major, minor)) => found(major, minor),
+            None => no(25),
+        };
+        assert_eq!(result, expected);
+        yes += u32::from(result.is_ok());
+    }
+    assert!(yes > 1000);
+}

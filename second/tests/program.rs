@@ -1,0 +1,105 @@
+//! The program itself: its lines, its messages and its exit status.
+
+mod common;
+
+use std::io::Write;
+use std::process::{Command, Output, Stdio};
+
+use common::*;
+use second::listing;
+
+/// Runs the program with arguments and standard input.
+fn run(arguments: &[&str], input: &[u8]) -> Output {
+    let mut child = Command::new(env!("CARGO_BIN_EXE_second"))
+        .args(arguments)
+        .stdin(Stdio::piped())
+        .stdout(Stdio::piped())
+        .stderr(Stdio::piped())
+        .spawn()
+        .unwrap();
+    // A wrongly called program may end without reading.
+    let _ = child.stdin.take().unwrap().write_all(input);
+    child.wait_with_output().unwrap()
+}
+
+/// The lines on standard output; the status is 0 and standard error empty.
+fn lines(arguments: &[&str], input: &[u8]) -> String {
+    let output = run(arguments, input);
+    assert_eq!(output.status.code(), Some(0));
+    assert!(output.stderr.is_empty());
+    String::from_utf8(output.stdout).unwrap()
+}
+
+#[test]
+fn from_standard_input() {
+    let name = [0, 0, 0, 0, 0, 6];
+    let expected = listing::name(&name);
+    assert_eq!(lines(&["name"], &name), expected);
+    assert_eq!(lines(&["name", "-"], &name), expected);
+    let table = os2(&[]);
+    for level in ["0", "5"] {
+        let expected = listing::os2(level.parse().unwrap(), &table);
+        assert_eq!(lines(&["os2", level], &table), expected);
+        assert_eq!(lines(&["os2", level, "-"], &table), expected);
+    }
+    assert_eq!(lines(&["os2", "6"], &table), "refused 1\n");
+    assert_eq!(lines(&["os2", "4294967295"], &table), "refused 1\n");
+    assert_eq!(lines(&["os2", "5"], &[]), "refused 2\n");
+    assert_eq!(lines(&["os2", "5"], &[0; 78]), "refused 3 at 1\n");
+    assert_eq!(lines(&["name"], &[0; 5]), "refused 10\n");
+    assert_eq!(lines(&["name"], &[0; 65_537]), "too long\n");
+    assert_eq!(
+        lines(&["font", "5"], b"no font"),
+        "no name table\nno OS/2 table\n"
+    );
+}
+
+#[test]
+fn from_a_file() {
+    let path = std::path::Path::new(env!("CARGO_TARGET_TMPDIR")).join("from_a_file");
+    let name = named(&[((1, 0, 0, 5), b"Version 2.5")]);
+    std::fs::write(&path, &name).unwrap();
+    let path = path.to_str().unwrap();
+    assert_eq!(lines(&["name", path], &[]), listing::name(&name));
+    assert_eq!(lines(&["os2", "5", path], &[]), listing::os2(5, &name));
+    assert_eq!(lines(&["font", "5", path], &[]), listing::font(5, &name));
+}
+
+#[test]
+fn unreadable_file() {
+    let nothing = std::path::Path::new(env!("CARGO_TARGET_TMPDIR")).join("no such file");
+    let directory = env!("CARGO_TARGET_TMPDIR");
+    for path in [nothing.to_str().unwrap(), directory] {
+        for arguments in [
+            &["name", path][..],
+            &["os2", "5", path],
+            &["os2", "6", path],
+            &["font", "5", path],
+        ] {
+            let output = run(arguments, &[]);
+            assert_eq!(output.status.code(), Some(1));
+            assert!(output.stdout.is_empty());
+            assert!(!output.stderr.is_empty());
+        }
+    }
+}
+
+#[test]
+fn wrong_calls() {
+    for arguments in [
+        &[][..],
+        &["other"],
+        &["name", "a", "b"],
+        &["os2"],
+        &["os2", "-1"],
+        &["os2", "five"],
+        &["os2", "4294967296"],
+        &["os2", "5", "a", "b"],
+        &["font"],
+    ] {
+        let output = run(arguments, &[]);
+        assert_eq!(output.status.code(), Some(2), "{arguments:?}");
+        assert!(output.stdout.is_empty());
+        assert!(!output.stderr.is_empty());
+    }
+}
