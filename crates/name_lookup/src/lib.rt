@@ -9,6 +9,7 @@ use name::Refusal;
 use name::Text;
 use name::Verdict;
 
+// What a lookup answers.
 pub enum Answer {
     // The string of the record that has the key.
     Found(Text),
@@ -27,6 +28,7 @@ pub enum Numbered {
 }
 
 impl Answer {
+    // The answer in document 01's numbers.
     pub fn said(self) -> Numbered
         ensures { λ r. ⌜ r ≡ said self ⌝ }
     {
@@ -51,7 +53,8 @@ pub fn lookup(table: &[u8], platform: u16, encoding: u16, language: u16, name: u
     }
 }
 
-// The record of an accepted table with these four numbers, by halving.
+// The record of an accepted table with these four numbers, by halving: between `low`, included, and `high`,
+// excluded, it looks at half their sum, rounded down, until it finds the key or the two meet.
 pub fn find(table: &[u8], platform: u16, encoding: u16, language: u16, name: u16) -> Place
     requires { ⌜ checkOf (now table) ≡ Verdict.Accepted ⌝ }
     ensures { λ r. ⌜ r ≡ recordOf (now (table .entry)) platform encoding language name ⌝ }

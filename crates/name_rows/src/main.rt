@@ -1,6 +1,6 @@
 // Writes what the check and the lookup answer for rows of tables: each refusal of a 'name' table, the edges beside it, and the largest table.
 // Document 01, "The 'name' layout" and "Examples to check against"; the stored output is worked out from there by hand.
-// A small table is given as its 16-bit numbers in order, in decimal.
+// A small table is given as its 16-bit numbers in order.
 ghost use Prim.Native.Nat.{_≤_};
 use libc::STDOUT_FILENO;
 use name::Place;
@@ -19,84 +19,163 @@ fn main() {
 // 10 to 14, and the smallest tables that are accepted.
 fn layouts() {
     verdict(b"5 bytes", b"\x00\x00\x00\x00\x00");
-    check(b"empty, format 0", b"0 0 6");
-    check(b"format 2", b"2 0 6");
-    check(b"a record past the end", b"0 1 18");
-    check(b"no tag count", b"1 0 6");
-    check(b"a tag past the end", b"1 0 8 1");
-    check(b"empty, format 1", b"1 0 8 0");
-    check(b"storage before the records' end", b"0 1 17 3 1 1033 1 0 0");
-    check(b"storage before the tags' end", b"1 0 11 1 0 0");
-    check(b"storage past the table's end", b"0 0 7");
+    check(b"empty, format 0", &[0, 0, 6]);
+    check(b"format 2", &[2, 0, 6]);
+    check(b"a record past the end", &[0, 1, 18]);
+    check(b"no tag count", &[1, 0, 6]);
+    check(b"a tag past the end", &[1, 0, 8, 1]);
+    check(b"empty, format 1", &[1, 0, 8, 0]);
+    check(
+        b"storage before the records' end",
+        &[0, 1, 17, 3, 1, 1033, 1, 0, 0],
+    );
+    check(b"storage before the tags' end", &[1, 0, 11, 1, 0, 0]);
+    check(b"storage past the table's end", &[0, 0, 7]);
 }
 
 // 15 and 16, and strings that end where the storage ends.
 fn strings() {
-    check(b"a string on the last byte", b"0 1 18 3 1 1033 1 4 0 65 66");
-    check(b"one byte longer", b"0 1 18 3 1 1033 1 5 0 65 66");
+    check(
+        b"a string on the last byte",
+        &[0, 1, 18, 3, 1, 1033, 1, 4, 0, 65, 66],
+    );
+    check(b"one byte longer", &[0, 1, 18, 3, 1, 1033, 1, 5, 0, 65, 66]);
     check(
         b"an empty string at the end",
-        b"0 1 18 3 1 1033 1 0 4 65 66",
+        &[0, 1, 18, 3, 1, 1033, 1, 0, 4, 65, 66],
     );
     check(
         b"an empty string past the end",
-        b"0 1 18 3 1 1033 1 0 5 65 66",
+        &[0, 1, 18, 3, 1, 1033, 1, 0, 5, 65, 66],
     );
     check(
         b"offset 65535 and length 2",
-        b"0 1 18 3 1 1033 1 2 65535 65",
+        &[0, 1, 18, 3, 1, 1033, 1, 2, 65535, 65],
     );
-    check(b"a tag's string on the last byte", b"1 0 16 2 2 0 2 0 65");
-    check(b"the second tag's string past it", b"1 0 16 2 2 0 2 1 65");
+    check(
+        b"a tag's string on the last byte",
+        &[1, 0, 16, 2, 2, 0, 2, 0, 65],
+    );
+    check(
+        b"the second tag's string past it",
+        &[1, 0, 16, 2, 2, 0, 2, 1, 65],
+    );
 }
 
 // 17, and each part of the key in turn.
 fn orders() {
-    check(b"equal keys", b"0 2 30 1 0 0 6 0 0 1 0 0 6 0 0");
-    check(b"a smaller name", b"0 2 30 1 0 0 6 0 0 1 0 0 5 0 0");
-    check(b"a smaller language", b"0 2 30 1 0 2 6 0 0 1 0 1 7 0 0");
-    check(b"a smaller encoding", b"0 2 30 1 2 0 6 0 0 1 1 9 9 0 0");
-    check(b"a smaller platform", b"0 2 30 2 0 0 6 0 0 1 9 9 9 0 0");
-    check(b"a larger platform", b"0 2 30 1 9 9 9 0 0 2 0 0 6 0 0");
+    check(
+        b"equal keys",
+        &[0, 2, 30, 1, 0, 0, 6, 0, 0, 1, 0, 0, 6, 0, 0],
+    );
+    check(
+        b"a smaller name",
+        &[0, 2, 30, 1, 0, 0, 6, 0, 0, 1, 0, 0, 5, 0, 0],
+    );
+    check(
+        b"a smaller language",
+        &[0, 2, 30, 1, 0, 2, 6, 0, 0, 1, 0, 1, 7, 0, 0],
+    );
+    check(
+        b"a smaller encoding",
+        &[0, 2, 30, 1, 2, 0, 6, 0, 0, 1, 1, 9, 9, 0, 0],
+    );
+    check(
+        b"a smaller platform",
+        &[0, 2, 30, 2, 0, 0, 6, 0, 0, 1, 9, 9, 9, 0, 0],
+    );
+    check(
+        b"a larger platform",
+        &[0, 2, 30, 1, 9, 9, 9, 0, 0, 2, 0, 0, 6, 0, 0],
+    );
 }
 
 // 18 in both formats, and its place between 15 and 17.
 fn languages() {
-    check(b"format 0, platform 239", b"0 1 18 239 0 32768 1 0 0");
-    check(b"format 0, platform 240", b"0 1 18 240 0 32768 1 0 0");
-    check(b"format 0, platform 255", b"0 1 18 255 0 65535 1 0 0");
-    check(b"format 0, platform 256", b"0 1 18 256 0 32768 1 0 0");
-    check(b"format 0, language 32767", b"0 1 18 3 1 32767 1 0 0");
-    check(b"format 1, the only tag", b"1 1 24 3 1 32768 1 0 0 1 0 0");
-    check(b"format 1, no such tag", b"1 1 24 240 1 32769 1 0 0 1 0 0");
-    check(b"15 before 18", b"0 1 18 3 1 32768 1 1 0");
-    check(b"18 before 17", b"0 2 30 3 1 0 1 0 0 3 0 32768 1 0 0");
+    check(
+        b"format 0, platform 239",
+        &[0, 1, 18, 239, 0, 32768, 1, 0, 0],
+    );
+    check(
+        b"format 0, platform 240",
+        &[0, 1, 18, 240, 0, 32768, 1, 0, 0],
+    );
+    check(
+        b"format 0, platform 255",
+        &[0, 1, 18, 255, 0, 65535, 1, 0, 0],
+    );
+    check(
+        b"format 0, platform 256",
+        &[0, 1, 18, 256, 0, 32768, 1, 0, 0],
+    );
+    check(
+        b"format 0, language 32767",
+        &[0, 1, 18, 3, 1, 32767, 1, 0, 0],
+    );
+    check(
+        b"format 1, the only tag",
+        &[1, 1, 24, 3, 1, 32768, 1, 0, 0, 1, 0, 0],
+    );
+    check(
+        b"format 1, no such tag",
+        &[1, 1, 24, 240, 1, 32769, 1, 0, 0, 1, 0, 0],
+    );
+    check(b"15 before 18", &[0, 1, 18, 3, 1, 32768, 1, 1, 0]);
+    check(
+        b"18 before 17",
+        &[0, 2, 30, 3, 1, 0, 1, 0, 0, 3, 0, 32768, 1, 0, 0],
+    );
 }
 
 // The first, the last, a middle and an absent key, and a refused table.
 fn lookups() {
-    let table = b"0 3 42 1 0 0 6 2 0 3 1 1033 5 0 0 3 1 1033 6 4 2 16738 65 98";
-    look_up(b"first", table, 1, 0, 0, 6);
-    look_up(b"middle", table, 3, 1, 1033, 5);
-    look_up(b"last", table, 3, 1, 1033, 6);
-    look_up(b"below the first", table, 0, 3, 0, 6);
-    look_up(b"between", table, 3, 0, 1033, 6);
-    look_up(b"above the last", table, 3, 1, 1033, 7);
-    look_up(b"in an empty table", b"0 0 6", 1, 0, 0, 6);
-    look_up(b"in a refused table", b"0 0 7", 1, 0, 0, 6);
+    let table = [
+        0,
+        3,
+        42,
+        1,
+        0,
+        0,
+        6,
+        2,
+        0,
+        3,
+        1,
+        1033,
+        5,
+        0,
+        0,
+        3,
+        1,
+        1033,
+        6,
+        4,
+        2,
+        16738,
+        65,
+        98,
+    ];
+    look_up(b"first", &table, 1, 0, 0, 6);
+    look_up(b"middle", &table, 3, 1, 1033, 5);
+    look_up(b"last", &table, 3, 1, 1033, 6);
+    look_up(b"below the first", &table, 0, 3, 0, 6);
+    look_up(b"between", &table, 3, 0, 1033, 6);
+    look_up(b"above the last", &table, 3, 1, 1033, 7);
+    look_up(b"in an empty table", &[0, 0, 6], 1, 0, 0, 6);
+    look_up(b"in a refused table", &[0, 0, 7], 1, 0, 0, 6);
 }
 
 // Checks a small table.
-fn check(label: &[u8], numbers: &[u8]) {
-    let bytes = packed(numbers);
-    let size = packed_size(numbers);
+fn check(label: &[u8], words: &[u16]) {
+    let bytes = packed(words);
+    let size = packed_size(words.len());
     verdict(label, &bytes[..size]);
 }
 
 // Looks a key up in a small table.
-fn look_up(label: &[u8], numbers: &[u8], platform: u16, encoding: u16, language: u16, name: u16) {
-    let bytes = packed(numbers);
-    let size = packed_size(numbers);
+fn look_up(label: &[u8], words: &[u16], platform: u16, encoding: u16, language: u16, name: u16) {
+    let bytes = packed(words);
+    let size = packed_size(words.len());
     answer(label, &bytes[..size], platform, encoding, language, name);
 }
 
@@ -139,55 +218,33 @@ fn refused(number: u32, place: Place) {
     io::write_all(STDOUT_FILENO, b"\n");
 }
 
-// The bytes of the numbers that a text gives, one space between two, at most 32 of them; zeros after them.
-fn packed(numbers: &[u8]) -> [u8; 64] {
+// The bytes of a small table, at most 32 numbers, and zeros after them.
+fn packed(words: &[u16]) -> [u8; 64] {
     let mut bytes = [0; 64];
     let mut at = 0;
-    let mut word = 0;
-    let mut i = 0;
-    while i < numbers.len() {
-        at = next_at(at, numbers[i]);
-        word = next_word(word, numbers[i]);
-        bytes[at] = high(word);
-        bytes[at + 1] = low(word);
-        i += 1;
+    while at < 64 {
+        bytes[at] = packed_byte(words, at);
+        at += 1;
     }
     bytes
 }
 
-// How many bytes these are.
-fn packed_size(numbers: &[u8]) -> usize
-    ensures { λ r. ⌜ r ≤ 64 ⌝ }
-{
-    let mut at = 0;
-    let mut i = 0;
-    while i < numbers.len() {
-        at = next_at(at, numbers[i]);
-        i += 1;
-    }
-    at + 2
-}
-
-// Where the number of the next character goes: a space ends a number.
-fn next_at(at: usize, character: u8) -> usize
-    requires { ⌜ at ≤ 62 ⌝ }
-    ensures { λ r. ⌜ r ≤ 62 ⌝ }
-{
-    if character != b' ' {
-        return at;
-    }
-    if at < 61 {
-        return at + 2;
-    }
-    at
-}
-
-// The number with the next character: a digit, whose figure is its low four bits, is put after it.
-fn next_word(word: u16, character: u8) -> u16 {
-    if character == b' ' {
+fn packed_byte(words: &[u16], at: usize) -> u8 {
+    let i = at / 2;
+    if words.len() <= i {
         return 0;
     }
-    ((word as u32 * 10 + (character % 16) as u32) % 65536) as u16
+    if at % 2 == 0 {
+        return high(words[i]);
+    }
+    low(words[i])
+}
+
+// The bytes of so many numbers, at most 64.
+fn packed_size(words: usize) -> usize
+    ensures { λ r. ⌜ r ≤ 64 ⌝ }
+{
+    if words < 32 { 2 * words } else { 64 }
 }
 
 fn high(word: u16) -> u8 {

@@ -1,10 +1,10 @@
 -- The three parts are the definition's three, in its order; past the first the records and tags lie within the table.
 -- Assumes nothing.
-use mathlib.Core.Path.{_≡_}
+use mathlib.Core.Path.{_≡_, sym, _∙_}
 use denote.Ref.{now}
 use borrow.Author.Needs.{needs}
 use Rattle.name.specs.Acceptance.{layoutFault, checkOf, _then_}
-use Rattle.name.specs.declared.Verdict.the-variants.{Accepted, Refused}
+use Rattle.name.specs.declared.Verdict.the-variants.{Accepted}
 use Rattle.name.proofs.Acceptances.{layout-accepted, framed}
 use Rattle.name.proofs.check.Statement.{statement}
 use Rattle.name.proofs.check.Tie as tie
@@ -18,7 +18,7 @@ enum-known-r c = search needs
 returns : tie.Need-returns
 unfolding checkOf _then_
 returns c =
-    let e : c .before .before .before .layout-fault .result ≡ Refused (c .before .r .given .0 .0) = cc in
+    let e = c .before .r .given .1 in
     simp (← c .before .before .before .layout-fault .ensures, e)
 
 enum-told : tie.Need-enum-told
@@ -26,7 +26,7 @@ enum-told c = search needs
 
 -- past the first test no fault of the layout is left
 laid : (c : tie.After-enum-told) → layoutFault (now (c .before .before .before .before .args .table)) ≡ Accepted
-laid c = cc
+laid c = sym (c .before .before .layout-fault .ensures) ∙ c .enum-told .given .1
 
 record-faults-requires : tie.Need-record-faults-requires
 record-faults-requires c κs = framed _ (layout-accepted _ .0 (laid c))
@@ -37,7 +37,7 @@ enum-known-r-2 c = search needs
 returns-2 : tie.Need-returns-2
 unfolding checkOf _then_
 returns-2 c =
-    let e : c .before .before .before .record-faults .result ≡ Refused (c .before .r2 .given .0 .0) = cc in
+    let e = c .before .r2 .given .1 in
     simp (laid (c .before .before .before .before), ← c .before .before .before .record-faults .ensures, e)
 
 enum-told-2 : tie.Need-enum-told-2
@@ -49,7 +49,7 @@ tag-faults-requires c κs = framed _ (layout-accepted _ .0 (laid (c .before .bef
 returns-3 : tie.Need-returns-3
 unfolding checkOf _then_
 returns-3 c =
-    let e : c .before .before .before .record-faults .result ≡ Accepted = cc in
+    let e = c .before .enum-told2 .given .1 in
     simp (laid (c .before .before .before .before), ← c .before .before .before .record-faults .ensures, e) (c .tag-faults .ensures)
 
 pub check-spec : {M : Type 1} → statement M

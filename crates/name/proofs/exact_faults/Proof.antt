@@ -1,7 +1,7 @@
+use mathlib.Core.Path.{_≡_, sym, _∙_}
 -- The loop keeps that no record so far has a fault; where one has, it is the first.
 -- Assumes nothing.
 use Prim.Native.Nat.{_≤_, _-_}
-use mathlib.Core.Path.{_≡_, sym}
 use native.Mathlib.Omega.{arith}
 use borrow.Author.Needs.{needs}
 use Rattle.name.specs.Acceptance.{firstOf, recordFault}
@@ -34,7 +34,8 @@ enum-known-r c = search needs
 returns : tie.Need-returns Inv-loop μ-loop
 returns c =
     let at = c .before .before .before .before .before in
-    sym (first-stop _ (at .loop .i) _ (omega arith) (at .loop .inv .1) (cc))
+    let fault = sym (c .before .before .before .record-fault .ensures) ∙ c .before .r .given .1 in
+    sym (first-stop _ (at .loop .i) _ (omega arith) (at .loop .inv .1) fault)
 
 enum-told : tie.Need-enum-told Inv-loop μ-loop
 enum-told c = search needs
@@ -46,13 +47,12 @@ loop-less : tie.Need-loop-less Inv-loop μ-loop
 loop-less c = search needs
 
 loop-again : tie.Need-loop-again Inv-loop μ-loop
-loop-again c = (search needs, first-more _ _ (c .before .before .before .before .loop .inv .1) (cc))
+loop-again c = (search needs, first-more _ _ (c .before .before .before .before .loop .inv .1) (sym (c .before .before .record-fault .ensures) ∙ c .enum-told .given .1))
 
 returns-2 : tie.Need-returns-2 Inv-loop μ-loop
 returns-2 c =
     let end : c .before .loop .i ≡ c .before .before .record-count .result = omega arith in
-    let all = rw end at (c .before .loop .inv .1) in
-    cc
+    rw (← c .before .before .record-count .ensures, ← end) (sym (c .before .loop .inv .1))
 
 pub exact-faults-spec : {M : Type 1} → statement M
 exact-faults-spec =

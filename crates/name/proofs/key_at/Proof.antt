@@ -37,7 +37,7 @@ key-number-requires c κs = search needs
 
 returns : tie.Need-returns
 unfolding keyOf
-returns c = cc
+returns c = rw (← c .before .before .before .before .read-u16 .ensures, ← c .before .before .before .read-u162 .ensures, ← c .before .before .read-u163 .ensures, ← c .before .read-u164 .ensures) (c .key-number .ensures)
 
 pub key-at-spec : {M : Type 1} → statement M
 key-at-spec =

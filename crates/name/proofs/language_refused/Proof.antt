@@ -31,7 +31,7 @@ forbidden-requires c κs = search needs
 
 returns : tie.Need-returns
 unfolding languageRefused
-returns c = cc
+returns c = rw (← c .before .before .before .before .format-number .ensures, ← c .before .before .before .tag-count .ensures, ← c .before .before .read-u16 .ensures, ← c .before .read-u162 .ensures) (c .forbidden .ensures)
 
 pub language-refused-spec : {M : Type 1} → statement M
 language-refused-spec =

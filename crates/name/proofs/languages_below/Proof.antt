@@ -1,7 +1,8 @@
 -- The loop keeps that each language so far is below the limit, and so allowed in either format.
 -- Assumes nothing.
-use Prim.Native.Nat.{ℕ, _≤_, _-_}
+use Prim.Native.Nat.{_≤_, _-_}
 use mathlib.Core.Path.{_≡_}
+use mathlib.Core.Bool.{false≢true}
 use native.Mathlib.Omega.{arith}
 use borrow.Author.Needs.{needs}
 use borrow.Author.Count.{below-none, below-more}
@@ -50,9 +51,7 @@ cast-if1 : tie.Need-cast-if1 Inv-loop μ-loop
 cast-if1 c = search needs
 
 returns : tie.Need-returns Inv-loop μ-loop
-returns c = λ e.
-    let z : _≡_ {A = ℕ} 0 1 = cc in
-    absurd (omega arith)
+returns c = λ e. absurd (false≢true e)
 
 add-i : tie.Need-add-i Inv-loop μ-loop
 add-i c = search needs

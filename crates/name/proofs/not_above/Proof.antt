@@ -17,7 +17,7 @@ key-at-requires-2 c κs = search needs
 
 returns : tie.Need-returns
 unfolding notAbove
-returns c = simp (lt-ltb _ _ (c .before .before .if1 .taken)) cc
+returns c = simp (lt-ltb _ _ (c .before .before .if1 .taken), ← c .before .key-at .ensures, ← c .key-at2 .ensures)
 
 returns-2 : tie.Need-returns-2
 unfolding notAbove

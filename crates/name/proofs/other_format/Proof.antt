@@ -10,7 +10,7 @@ format-number-requires c κs = search needs
 
 returns : tie.Need-returns
 unfolding otherFormat
-returns c = cc
+returns c = rw (← c .format-number .ensures)
 
 pub other-format-spec : {M : Type 1} → statement M
 other-format-spec = tie.close (tie.spec format-number-requires returns)

@@ -10,7 +10,7 @@ records-end-requires c κs = search needs
 
 returns : tie.Need-returns
 unfolding recordsPass
-returns c = cc
+returns c = rw (← c .records-end .ensures)
 
 pub records-pass-spec : {M : Type 1} → statement M
 records-pass-spec = tie.close (tie.spec records-end-requires returns)

@@ -34,7 +34,7 @@ add-result c = search needs
 
 returns : tie.Need-returns
 unfolding stringPasses
-returns c = cc
+returns c = rw (← c .before .before .storage-start .ensures, ← c .before .read-u16 .ensures, ← c .read-u162 .ensures)
 
 pub string-passes-spec : {M : Type 1} → statement M
 string-passes-spec =

@@ -1,5 +1,6 @@
 -- In format 0 there are no tags; in format 1 their count follows the records, within the table.
 -- Assumes nothing.
+use mathlib.Core.Path.{sym, _∙_}
 use native.Mathlib.Omega.{arith}
 use borrow.Author.Needs.{needs}
 use Rattle.name.proofs.Layouts.{format-0, format-1}
@@ -11,21 +12,21 @@ format-number-requires c κs = search needs
 
 returns : tie.Need-returns
 returns c =
-    let e = format-0 (c .before .before .before .args .table .now) (cc) in
-    omega arith
+    let e = format-0 (c .before .before .before .args .table .now) (sym (c .before .format-number .ensures) ∙ c .if1 .taken) in
+    sym (e .0)
 
 records-end-requires : tie.Need-records-end-requires
 records-end-requires c κs = search needs
 
 read-u16-requires : tie.Need-read-u16-requires
 read-u16-requires c κs =
-    let e = format-1 (c .before .before .before .before .args .table .now) (λ z. c .before .if1 .left (cc)) in
+    let e = format-1 (c .before .before .before .before .args .table .now) (rw (c .before .before .format-number .ensures) at (c .before .if1 .left)) in
     omega arith
 
 returns-2 : tie.Need-returns-2
 returns-2 c =
-    let e = format-1 (c .before .before .before .before .before .args .table .now) (λ z. c .before .before .if1 .left (cc)) in
-    cc
+    let e = format-1 (c .before .before .before .before .before .args .table .now) (rw (c .before .before .before .format-number .ensures) at (c .before .before .if1 .left)) in
+    rw (e .0, ← c .before .records-end .ensures) (c .read-u16 .ensures)
 
 pub tag-count-spec : {M : Type 1} → statement M
 tag-count-spec =

@@ -1,7 +1,7 @@
 -- Format 0 has no tags, so they end with the records; in format 1 a table that ends before the tag count ends before the tags.
 -- Assumes nothing.
+use mathlib.Core.Path.{sym, _∙_}
 use Prim.Native.Nat.{_≤_, _<_}
-use mathlib.Core.Path.{sym}
 use native.Mathlib.Omega.{arith}
 use lib.ListN.{length}
 use borrow.Author.Tests.{lt-ltb, le-ltb}
@@ -19,7 +19,7 @@ returns : tie.Need-returns
 unfolding tagsPass
 returns c =
     let t = c .before .before .before .args .table .now in
-    let e = format-0 t (cc) in
+    let e = format-0 t (sym (c .before .format-number .ensures) ∙ c .if1 .taken) in
     let h : tagsEnd t ≤ length t = omega arith in
     sym (le-ltb _ _ h)
 
@@ -33,7 +33,7 @@ returns-2 : tie.Need-returns-2
 unfolding tagsPass
 returns-2 c =
     let t = c .before .before .before .before .before .args .table .now in
-    let e = format-1 t (λ z. c .before .before .if1 .left (cc)) in
+    let e = format-1 t (rw (c .before .before .before .format-number .ensures) at (c .before .before .if1 .left)) in
     let h : length t < tagsEnd t = omega arith in
     sym (lt-ltb _ _ h)
 
@@ -55,8 +55,9 @@ add-result-2 c = search needs
 returns-3 : tie.Need-returns-3
 unfolding tagsPass
 returns-3 c =
-    let e = format-1 (c .before .before .before .before .before .before .args .table .now) (λ z. c .before .before .before .if1 .left (cc)) in
-    cc
+    let t = c .before .before .before .before .before .before .args .table .now in
+    let e = format-1 t (rw (c .before .before .before .before .format-number .ensures) at (c .before .before .before .if1 .left)) in
+    rw (e .1, e .0, ← c .before .before .records-end .ensures, ← c .read-u16 .ensures)
 
 pub tags-pass-spec : {M : Type 1} → statement M
 tags-pass-spec =

@@ -1,5 +1,6 @@
 -- In format 0 nothing follows the records; in format 1 the tag count does.
 -- Assumes nothing.
+use mathlib.Core.Path.{sym, _∙_}
 use borrow.Author.Needs.{needs}
 use Rattle.name.proofs.Layouts.{format-0, format-1}
 use Rattle.name.proofs.tags_start.Statement.{statement}
@@ -13,8 +14,8 @@ records-end-requires c κs = search needs
 
 returns : tie.Need-returns
 returns c =
-    let e = format-0 (c .before .before .before .before .args .table .now) (cc) in
-    cc
+    let e = format-0 (c .before .before .before .before .args .table .now) (sym (c .before .before .format-number .ensures) ∙ c .before .if1 .taken) in
+    c .records-end .ensures ∙ sym (e .1)
 
 records-end-requires-2 : tie.Need-records-end-requires-2
 records-end-requires-2 c κs = search needs
@@ -24,8 +25,8 @@ add-result c = search needs
 
 returns-2 : tie.Need-returns-2
 returns-2 c =
-    let e = format-1 (c .before .before .before .before .args .table .now) (λ z. c .before .if1 .left (cc)) in
-    cc
+    let e = format-1 (c .before .before .before .before .args .table .now) (rw (c .before .before .format-number .ensures) at (c .before .if1 .left)) in
+    rw (e .1, ← c .records-end2 .ensures)
 
 pub tags-start-spec : {M : Type 1} → statement M
 tags-start-spec =

@@ -40,7 +40,7 @@ cast-t11 c = search needs
 
 returns : tie.Need-returns
 unfolding textOf
-returns c = cc
+returns c = rw (← c .before .before .storage-start .ensures, ← c .before .read-u16 .ensures, ← c .read-u162 .ensures)
 
 pub text-of-spec : {M : Type 1} → statement M
 text-of-spec =

@@ -1,7 +1,7 @@
 -- Halving keeps that the key stands nowhere below `low` and nowhere from `high` on; a scan of rising keys then finds the same.
 -- Assumes nothing.
 use Prim.Native.Nat.{_+_, _-_, _/_}
-use mathlib.Core.Path.{_≡_, sym}
+use mathlib.Core.Path.{_≡_, sym, _∙_}
 use native.Mathlib.Omega.{arith}
 use denote.Ref.{now}
 use borrow.Author.Needs.{needs}
@@ -47,7 +47,8 @@ returns : tie.Need-returns Inv-loop μ-loop
 unfolding recordOf
 returns c =
     let at = c .before .before .before in
-    sym (scan-found _ _ ((at .loop .low + at .loop .high) / 2) _ (omega arith) (cc) (ordered (at .before .before .before .before)))
+    let same = sym (c .before .key-at .ensures) ∙ c .if1 .taken ∙ at .before .before .key-number .ensures in
+    sym (scan-found _ _ ((at .loop .low + at .loop .high) / 2) _ (omega arith) same (ordered (at .before .before .before .before)))
 
 add-low : tie.Need-add-low Inv-loop μ-loop
 add-low c = omega arith

@@ -2,9 +2,9 @@
 -- Assumes nothing.
 use Prim.Native.Nat.{_≤_}
 use mathlib.Core.Path.{sym}
-use native.Mathlib.Omega.{arith}
 use lib.ListN.{length}
 use lib.Seq.{length-take-le}
+use native.Mathlib.Omega.{arith}
 use borrow.Author.Needs.{needs}
 use Rattle.name_rows.proofs.check.Statement.{statement}
 use Rattle.name_rows.proofs.check.Tie as tie
@@ -19,9 +19,7 @@ array-share-prefix-bytes : tie.Need-array-share-prefix-bytes
 array-share-prefix-bytes c = search needs
 
 slice-aggregate-verdict : tie.Need-slice-aggregate-verdict
-slice-aggregate-verdict c =
-    let h : c .before .packed-size .result ≤ length (c .before .before .packed .result) = omega arith in
-    sym (length-take-le _ _ h)
+slice-aggregate-verdict c = let h : c .before .packed-size .result ≤ length (c .before .before .packed .result) = omega arith in sym (length-take-le _ _ h)
 
 verdict-requires : tie.Need-verdict-requires
 verdict-requires c κs = search needs

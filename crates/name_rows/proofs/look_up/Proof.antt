@@ -2,9 +2,9 @@
 -- Assumes nothing.
 use Prim.Native.Nat.{_≤_}
 use mathlib.Core.Path.{sym}
-use native.Mathlib.Omega.{arith}
 use lib.ListN.{length}
 use lib.Seq.{length-take-le}
+use native.Mathlib.Omega.{arith}
 use borrow.Author.Needs.{needs}
 use Rattle.name_rows.proofs.look_up.Statement.{statement}
 use Rattle.name_rows.proofs.look_up.Tie as tie
@@ -19,9 +19,7 @@ array-share-prefix-bytes : tie.Need-array-share-prefix-bytes
 array-share-prefix-bytes c = search needs
 
 slice-aggregate-answer : tie.Need-slice-aggregate-answer
-slice-aggregate-answer c =
-    let h : c .before .packed-size .result ≤ length (c .before .before .packed .result) = omega arith in
-    sym (length-take-le _ _ h)
+slice-aggregate-answer c = let h : c .before .packed-size .result ≤ length (c .before .before .packed .result) = omega arith in sym (length-take-le _ _ h)
 
 answer-requires : tie.Need-answer-requires
 answer-requires c κs = search needs

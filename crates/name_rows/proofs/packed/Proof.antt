@@ -1,57 +1,35 @@
--- The loop keeps that the place is at most 62, so that two bytes fit there.
+-- The loop writes each of the 64 bytes once; an index below 64 is within the array.
 -- Assumes nothing.
 use Prim.Native.Nat.{_≤_, _-_}
 use mathlib.Core.Path.{_≡_}
-use native.Mathlib.Omega.{arith}
-use lib.ListN.{length, length-set}
+use lib.ListN.{length}
 use borrow.Author.Needs.{needs}
 use Rattle.name_rows.proofs.packed.Statement.{statement}
 use Rattle.name_rows.proofs.packed.Tie as tie
 
 abbrev Inv-loop : tie.InvT-loop
-Inv-loop numbers bytes₀ at₀ word₀ i₀ bytes at word i = (i ≤ length numbers) × (at ≤ 62) × (length bytes ≡ 64)
+Inv-loop words bytes₀ at₀ bytes at = (at ≤ 64) × (length bytes ≡ 64)
 
 abbrev μ-loop : tie.MeasureT-loop
-μ-loop numbers bytes₀ at₀ word₀ i₀ bytes at word i = length numbers - i
+μ-loop words bytes₀ at₀ bytes at = 64 - at
 
 loop-holds : tie.Need-loop-holds Inv-loop μ-loop
 loop-holds c = search needs
 
-shared-slice-read-next-at : tie.Need-shared-slice-read-next-at Inv-loop μ-loop
-shared-slice-read-next-at c = search needs
-
-next-at-requires : tie.Need-next-at-requires Inv-loop μ-loop
-next-at-requires c κs = search needs
-
-shared-slice-read-next-word : tie.Need-shared-slice-read-next-word Inv-loop μ-loop
-shared-slice-read-next-word c = search needs
-
-next-word-requires : tie.Need-next-word-requires Inv-loop μ-loop
-next-word-requires c κs = search needs
-
-high-requires : tie.Need-high-requires Inv-loop μ-loop
-high-requires c κs = search needs
+packed-byte-requires : tie.Need-packed-byte-requires Inv-loop μ-loop
+packed-byte-requires c κs = search needs
 
 array-write-bytes : tie.Need-array-write-bytes Inv-loop μ-loop
 array-write-bytes c = search needs
 
-low-requires : tie.Need-low-requires Inv-loop μ-loop
-low-requires c κs = search needs
-
-add-bytes : tie.Need-add-bytes Inv-loop μ-loop
-add-bytes c = search needs
-
-array-write-bytes-2 : tie.Need-array-write-bytes-2 Inv-loop μ-loop
-array-write-bytes-2 c = search needs
-
-add-i : tie.Need-add-i Inv-loop μ-loop
-add-i c = search needs
+add-at : tie.Need-add-at Inv-loop μ-loop
+add-at c = search needs
 
 loop-less : tie.Need-loop-less Inv-loop μ-loop
 loop-less c = search needs
 
 loop-again : tie.Need-loop-again Inv-loop μ-loop
-loop-again c = (omega arith, omega arith, simp length-set (omega arith))
+loop-again c = search needs
 
 returns : tie.Need-returns Inv-loop μ-loop
 returns c = search needs
@@ -63,16 +41,9 @@ packed-spec =
     Inv-loop
     μ-loop
     loop-holds
-    shared-slice-read-next-at
-    next-at-requires
-    shared-slice-read-next-word
-    next-word-requires
-    high-requires
+    packed-byte-requires
     array-write-bytes
-    low-requires
-    add-bytes
-    array-write-bytes-2
-    add-i
+    add-at
     loop-less
     loop-again
     returns)

@@ -1,8 +1,6 @@
 -- Each arm is the definition at its case.
 -- Assumes nothing.
-use mathlib.Core.Path.{_≡_}
 use borrow.Author.Needs.{needs}
-use Rattle.name_lookup.specs.declared.Answer.the-variants.{Refused}
 use Rattle.name_lookup.proofs.Answer.said.Statement.{statement}
 use Rattle.name_lookup.proofs.Answer.said.Tie as tie
 
@@ -22,15 +20,14 @@ place-requires : tie.Need-place-requires
 place-requires c κs = search needs
 
 returns : tie.Need-returns
-returns c = cc
+returns c = rw (c .before .self .given .1)
 
 returns-2 : tie.Need-returns-2
-returns-2 c = cc
+returns-2 c = rw (c .enum-told .given .1)
 
 returns-3 : tie.Need-returns-3
 returns-3 c =
-    let e : c .before .before .before .before .before .args .self ≡ Refused (c .before .before .before .self2 .given .0 .0) = cc in
-    rw (e, c .before .number .ensures, c .place .ensures)
+    rw (c .before .before .before .self2 .given .1, c .before .number .ensures, c .place .ensures)
 
 pub said-spec : {M : Type 1} → statement M
 said-spec =
