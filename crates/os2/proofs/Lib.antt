@@ -5,3 +5,4 @@ pub mod Settling
 pub mod Agreeing
 pub mod Trimming
 pub mod Starred
+pub mod Saying
