@@ -98,6 +98,7 @@ check-once = once saidCheck hear back
     hear : Outcome (Unit {0}) → Checked
     hear (refused n c) = Checked·.Refused (refusalOf n c)
     hear (answered u) = Checked·.Accepted
+
     back : (r : Checked) → hear (saidCheck r) ≡ r
     back Checked·.Accepted = refl
     back (Checked·.Refused r) = ap Checked·.Refused (refusal-back r)
@@ -108,6 +109,7 @@ reply-once = once saidReply hear back
     hear : Outcome Said → Reply
     hear (refused n c) = Reply·.Refused (refusalOf n c)
     hear (answered a) = Reply·.Answered (answerOf a)
+
     back : (r : Reply) → hear (saidReply r) ≡ r
     back (Reply·.Answered (Answer·.Value x)) = refl
     back (Reply·.Answered Answer·.Absent) = refl
@@ -120,6 +122,7 @@ rights-once = once saidRightsReply hear back
     hear : Outcome Said → RightsReply
     hear (refused n c) = RightsReply·.Refused (refusalOf n c)
     hear (answered a) = RightsReply·.Answered (rightsOf a)
+
     back : (r : RightsReply) → hear (saidRightsReply r) ≡ r
     back (RightsReply·.Answered (RightsAnswer·.Value Installable)) = refl
     back (RightsReply·.Answered (RightsAnswer·.Value Restricted)) = refl
@@ -135,6 +138,7 @@ style-once = once saidStyleReply hear back
     hear : Outcome Said → StyleReply
     hear (refused n c) = StyleReply·.Refused (refusalOf n c)
     hear (answered a) = StyleReply·.Answered (styleOf a)
+
     back : (r : StyleReply) → hear (saidStyleReply r) ≡ r
     back (StyleReply·.Answered (StyleAnswer·.Value p)) = refl
     back (StyleReply·.Answered StyleAnswer·.Absent) = refl
@@ -147,6 +151,7 @@ optical-once = once saidOpticalReply hear back
     hear : Outcome Said → OpticalReply
     hear (refused n c) = OpticalReply·.Refused (refusalOf n c)
     hear (answered a) = OpticalReply·.Answered (opticalOf a)
+
     back : (r : OpticalReply) → hear (saidOpticalReply r) ≡ r
     back (OpticalReply·.Answered (OpticalAnswer·.Value Every)) = refl
     back (OpticalReply·.Answered (OpticalAnswer·.Value (Upwards a))) = refl
