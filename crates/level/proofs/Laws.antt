@@ -96,8 +96,5 @@ size-rises v w h =
 pub size-least : (v : ℕ) → 78 ≤ tableSize v
 size-least v = by-piece (λ n. 78 ≤ n) v (λ p. omega arith) (λ p o. omega arith) (λ p o. omega arith) (λ p. omega arith)
 
-pub size-most : (v : ℕ) → tableSize v ≤ 100
-size-most v = by-piece (λ n. n ≤ 100) v (λ p. omega arith) (λ p o. omega arith) (λ p o. omega arith) (λ p. omega arith)
-
 -- ---- for `search`: what closes a need, and the tests that the branches on the way decide
 pub ruleset decided = (needs, lt-ltb, le-ltb)

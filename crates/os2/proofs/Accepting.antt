@@ -20,10 +20,9 @@ use Rattle.os2_rules.specs.declared.Verdict.{Verdict}
 use Rattle.os2_rules.specs.declared.Verdict.the-variants.{Kept, Broken}
 use Rattle.os2_rules.proofs.Exactly.{kept-exactly, broken-exactly}
 use Rattle.os2_fields.specs.Catalogue.{fieldOf}
-use Rattle.os2_fields.specs.Fields.{version}
+use Rattle.os2_fields.specs.Fields.{version, valuesOf}
 use Rattle.os2_fields.specs.Reading.{Lies, Word}
 use Rattle.os2.specs.Outcomes.{refused, accepted, unless, unlessBroken}
-use Rattle.os2_fields.specs.Fields.{valuesOf}
 use Rattle.os2.specs.Acceptance.{underTwo, underSize, short, ruling, judged, checked}
 use Rattle.os2.specs.Settled.{Short, BreaksFirst, Accepted}
 use Rattle.os2_fields.proofs.Tiling.{lies, word}
@@ -124,6 +123,28 @@ judged-exactly L b = (there, back)
 
     back : Accepted L b → unless (short L b) 2 (unlessBroken (ruling L b) accepted) ≡ accepted
     back a = rw (long-exactly L b .1 (a .two, a .sized), kept-is L b .1 (a .ruled))
+
+-- "exactly when neither 2's nor 3's condition holds"
+pub accepted-neither : (L : ℕ) (b : List ℕ) → Accepted L b ↔ ((Short L b → ⊥) × ((k : ℕ) → BreaksFirst L b k → ⊥))
+accepted-neither L b = (there, back)
+  where
+    there : Accepted L b → (Short L b → ⊥) × ((k : ℕ) → BreaksFirst L b k → ⊥)
+    there a = (
+      λ s. false≢true (sym (long-exactly L b .1 (a .two, a .sized)) ∙ short-exactly L b .1 s),
+      λ k h. clash k (kept-is L b .1 (a .ruled)) (broken-is L b k .1 h),
+    )
+      where
+        clash : (k : ℕ) → ruling L b ≡ Kept → ruling L b ≡ Broken k → ⊥
+        clash k e d = let z : _≡_ {A = ℕ} 0 1 = cc in omega arith
+
+    back : (Short L b → ⊥) × ((k : ℕ) → BreaksFirst L b k → ⊥) → Accepted L b
+    back n =
+        let l = long-exactly L b .0 (fails (short L b) (short-exactly L b) (n .0)) in
+        record { two = l .0; sized = l .1; ruled = rules (ruling L b) refl }
+      where
+        rules : (v : Verdict) → ruling L b ≡ v → version b ≤ L → Rules (valuesOf b)
+        rules Kept e = kept-is L b .0 e
+        rules (Broken k) e = absurd (n .1 k (broken-is L b k .0 e))
 
 -- demand 2's "accepted exactly when"
 pub checked-exactly : (L : ℕ) → L ≤ 5 → (b : List ℕ) → (checked L b ≡ accepted) ↔ Accepted L b

@@ -10,23 +10,24 @@ use native.Mathlib.Nat.{le-trans, min-eq-left}
 use native.Mathlib.Decide.{decLt}
 use native.Mathlib.Omega.{arith}
 use lib.ListN.{length, replicate}
-use borrow.Author.Tests.{le-leb}
+use lib.Dec.{ltb}
+use borrow.Author.Tests.{le-leb, ltb-false}
 use Rattle.level.specs.Sizes.{tableSize}
 use Rattle.level.proofs.Laws.{size-rises}
-use Rattle.bigendian.specs.Numbers.{number}
+use Rattle.bigendian.specs.Numbers.{number, stored}
+use Rattle.os2.specs.Examples.{first}
 use Rattle.os2_rules.specs.Bits.{bit, bits}
 use Rattle.os2_rules.specs.Tests.{weightBroken, widthBroken, typeBroken, rightsBroken, selectionBroken, regularBroken, sizesBroken, verdictOf}
 use Rattle.os2.specs.declared.Question.{Question}
 use Rattle.os2.specs.declared.Question.the-variants.{Field, Rights}
 use Rattle.os2_fields.specs.Catalogue.{catalogue, fieldOf}
-use Rattle.os2_fields.specs.Fields.{rawIn, version}
-use Rattle.os2.specs.Outcomes.{Said, value, absent, not-known, Outcome, refused, answered, accepted}
-use Rattle.os2_fields.specs.Fields.{valuesOf}
+use Rattle.os2_fields.specs.Fields.{rawIn, version, valuesOf}
+use Rattle.os2.specs.Outcomes.{Said, value, absent, not-known, Outcome, refused, answered, accepted, unless}
 use Rattle.os2.specs.Acceptance.{underTwo, underSize, short, ruling, judged, checked}
 use Rattle.os2.specs.Questions.{outOfRange, ownRefusal, since, onWhole}
 use Rattle.os2.specs.Asking.{above, valueOf, given, ask}
 use Rattle.os2.specs.Settled.{Short, Accepted, CameIn, field-came, Later, after, newer}
-use Rattle.os2.specs.Demands.{AcceptsExactly, Demand3}
+use Rattle.os2.specs.Demands.{AcceptsExactly, AnswersSettled, Agreement, Demand3, SameOrNewer}
 use Rattle.os2.proofs.Laws.{above-lt, le-above, lt-above, zero-above}
 use Rattle.os2.proofs.Accepting.{judged-exactly, judged-short, checked-exactly}
 use Rattle.os2.proofs.Settling.{came-since, laterTest, tells, given-is, later, later-is, ask-own, ask-judged, ask-accepted, settles}
@@ -35,7 +36,16 @@ use Rattle.os2.proofs.Settling.{came-since, laterTest, tells, given-is,
 
 -- demand 2, of ours
 pub accepts-exactly : AcceptsExactly checked
-accepts-exactly L h b = checked-exactly L h b
+unfolding checked
+accepts-exactly L b = (there (ltb 5 L) refl, λ a. checked-exactly L (a .0) b .1 (a .1))
+  where
+    there : (t : Bool) → ltb 5 L ≡ t → unless t 1 (judged L b) ≡ accepted → (L ≤ 5) × Accepted L b
+    there true e d = let z : _≡_ {A = ℕ} 0 1 = cc in absurd (omega arith)
+    there false e d = (ltb-false 5 L e, judged-exactly L b .0 d)
+
+-- demands 1 and 2, of ours
+pub answers-settled : AnswersSettled ask
+answers-settled L b q = settles L b q
 
 pub accepted-down : {L H : ℕ} → L ≤ H → (b : List ℕ) → Accepted H b → Accepted L b
 accepted-down {L} {H} h b a =
@@ -76,14 +86,16 @@ tells-known b q = at (above (since q) (version b))
 
 -- ---- demand 3
 
-pub demand-3 : Demand3 ask
+pub demand-3 : Demand3 checked ask
 demand-3 L H h l b q =
     record {
-      lower-accepts = accepted-down h b;
-      same-or-not-known = λ a. same a (outOfRange q) refl;
+      lower-exactly = checked-exactly L (le-trans h l) b;
+      higher-exactly = checked-exactly H l b;
+      lower-accepts = λ e. checked-exactly L (le-trans h l) b .1 (accepted-down h b (checked-exactly H l b .0 e));
+      same-or-not-known = λ e. same (checked-exactly H l b .0 e) (outOfRange q) refl;
       lower-settled = settles L b q;
       higher-settled = settles H b q;
-      not-known-exactly = λ a. (knows a (outOfRange q) refl, unknown a);
+      not-known-exactly = λ e. (knows (checked-exactly L (le-trans h l) b .0 e) (outOfRange q) refl, unknown (checked-exactly L (le-trans h l) b .0 e));
     }
   where
     two : (s : Bool) → laterTest L b q ≡ s → (t : Bool) → laterTest H b q ≡ t →
@@ -116,7 +128,7 @@ and-false true = refl
 and-false false = refl
 
 -- of what came in with version 0: both levels say the same, or the lower accepts the bytes and the table is newer than it
-pub same-or-newer : (L H : ℕ) → L ≤ H → H ≤ 5 → (b : List ℕ) (q : Question) → CameIn q 0 → (ask L b q ≡ ask H b q) ⊎ (Accepted L b × (L < version b))
+pub same-or-newer : SameOrNewer ask
 unfolding laterTest judged ruling short underTwo underSize
 same-or-newer L H h l b q c = at (decLt L (version b))
   where
@@ -149,38 +161,28 @@ same-or-newer L H h l b q c = at (decLt L (version b))
 
 -- ---- readers that the demands rule out
 
--- 78 zero bytes but weight 400, width 5
-plain : List ℕ
-plain = 0 ∷ 0 ∷ 0 ∷ 0 ∷ 1 ∷ 144 ∷ 0 ∷ 5 ∷ replicate 70 0
+-- document 01's first starred table: 78 zero bytes but weight 400, width 5
+first-accepted : (L : ℕ) → L ≤ 5 → Accepted L (first 78)
+unfolding judged short underTwo underSize ruling valuesOf verdictOf weightBroken widthBroken typeBroken rightsBroken selectionBroken regularBroken sizesBroken rawIn fieldOf catalogue number stored tableSize bit bits
+first-accepted L l = accepted-down l (first 78) (judged-exactly 5 (first 78) .0 refl)
 
-plain-accepted : (L : ℕ) → L ≤ 5 → Accepted L plain
-unfolding plain judged short underTwo underSize ruling valuesOf verdictOf weightBroken widthBroken typeBroken rightsBroken selectionBroken regularBroken sizesBroken rawIn fieldOf catalogue number tableSize bit bits
-plain-accepted L l = accepted-down l plain (judged-exactly 5 plain .0 refl)
+first-version : version (first 78) ≡ 0
+unfolding rawIn fieldOf catalogue number stored
+first-version = refl
 
-plain-version : version plain ≡ 0
-unfolding plain rawIn fieldOf catalogue number
-plain-version = refl
+module _ (check : ℕ → List ℕ → Outcome (Unit {0})) (read : ℕ → List ℕ → Question → Outcome Said) (d : Demand3 check read) where
+  ours : (L : ℕ) → L ≤ 5 → (q : Question) → Agreement check read L L (first 78) q
+  ours L l q = d L L (omega arith) l (first 78) q
 
--- a check that refuses every table does not accept exactly what document 01 does
-pub not-refusing-all : (check : ℕ → List ℕ → Outcome (Unit {0})) → ((L : ℕ) (b : List ℕ) → check L b ≡ accepted → ⊥) → AcceptsExactly check → ⊥
-not-refusing-all check all d = all 5 plain (d 5 (omega arith) plain .1 (plain-accepted 5 (omega arith)))
+  -- none refuses every table
+  pub not-refusing-all : ((L : ℕ) (b : List ℕ) → check L b ≡ accepted → ⊥) → ⊥
+  not-refusing-all all = all 5 (first 78) (ours 5 (omega arith) Rights .higher-exactly .1 (first-accepted 5 (omega arith)))
 
--- a reader that refuses every question does not meet demand 3
-pub not-refused-all : (read : ℕ → List ℕ → Question → Outcome Said) (n : ℕ → List ℕ → Question → ℕ) (c : ℕ → List ℕ → Question → Option ℕ) →
-    ((L : ℕ) (b : List ℕ) (q : Question) → read L b q ≡ refused (n L b q) (c L b q)) → Demand3 read → ⊥
-unfolding fieldOf catalogue
-not-refused-all read n c all d =
-    let e : read 0 plain (Field 39) ≡ answered not-known =
-    d 0 0 (omega arith) (omega arith) plain (Field 39) .not-known-exactly (plain-accepted 0 (omega arith)) .1 (after (field-came {k = 39} (omega arith)) (omega arith)) in
-    let f : refused (n 0 plain (Field 39)) (c 0 plain (Field 39)) ≡ answered not-known = sym (all 0 plain (Field 39)) ∙ e in
-    let z : _≡_ {A = ℕ} 0 1 = cc in
-    omega arith
-
--- nor does one that knows nothing
-pub not-all-unknown : (read : ℕ → List ℕ → Question → Outcome Said) → ((L : ℕ) (b : List ℕ) (q : Question) → read L b q ≡ answered not-known) → Demand3 read → ⊥
-unfolding since
-not-all-unknown read all d = never (d 5 5 (omega arith) (omega arith) plain Rights .not-known-exactly (plain-accepted 5 (omega arith)) .0 (all 5 plain Rights))
-  where
-    never : Later 5 plain Rights → ⊥
-    never (after c h) = omega (arith, came-since c .1)
-    never (newer o h) = omega (arith, plain-version)
+  -- none answers "not known" to everything
+  pub not-all-unknown : ((L : ℕ) (b : List ℕ) (q : Question) → read L b q ≡ answered not-known) → ⊥
+  unfolding since
+  not-all-unknown all = never (ours 5 (omega arith) Rights .not-known-exactly (ours 5 (omega arith) Rights .lower-exactly .1 (first-accepted 5 (omega arith))) .0 (all 5 (first 78) Rights))
+    where
+      never : Later 5 (first 78) Rights → ⊥
+      never (after c h) = omega (arith, came-since c .1)
+      never (newer o h) = omega (arith, first-version)

@@ -1,9 +1,9 @@
 -- The ways to an outcome, as the code takes them: refusal 1, the question's own, those of the check, and the answer.
 -- Assumes nothing.
 use Prim.Native.Nat.{ℕ}
-use mathlib.Core.Path.{_≡_, sym, _∙_}
+use mathlib.Core.Path.{_≡_, refl, sym, _∙_}
 use mathlib.Core.Bool.{Bool, true, false}
-use mathlib.Core.Option.{none}
+use mathlib.Core.Option.{Option, none}
 use mathlib.Core.List.{List}
 use native.Mathlib.Omega.{arith}
 use lib.Dec.{ltb}
@@ -30,33 +30,45 @@ module _ (L : ℕ) (b : List ℕ) where
   unfolding checked
   checked-refused e = rw (lt-ltb 5 L (level-refused L e))
 
-  pub open-known : {l : Level} → levelOf L ≡ Known l → accepted ≡ judged (numberOf l) b → judged L b ≡ accepted
-  open-known {l} e d = sym (rw (known L l e .1) at d)
-
-  pub open-checked : accepted ≡ checked L b → judged L b ≡ accepted
-  unfolding checked
-  open-checked = at (ltb 5 L)
-    where
-      at : (t : Bool) → accepted ≡ unless t 1 (judged L b) → judged L b ≡ accepted
-      at true e = let z : _≡_ {A = ℕ} 0 1 = cc in absurd (omega arith)
-      at false e = sym e
-
   module _ (q : Question) where
-    pub asked-refused : levelOf L ≡ Refused → refused 1 none ≡ ask L b q
-    unfolding ask opened
-    asked-refused e = rw (lt-ltb 5 L (level-refused L e))
+    pub opened-refused : levelOf L ≡ Refused → refused 1 none ≡ opened L b q
+    unfolding opened
+    opened-refused e = rw (lt-ltb 5 L (level-refused L e))
 
-    pub asked-own : {l : Level} → levelOf L ≡ Known l → outOfRange q ≡ true → refused (ownRefusal q) none ≡ ask L b q
-    unfolding ask opened
-    asked-own {l} e d = rw (le-ltb 5 L (known L l e .0), d)
+    module _ {l : Level} (known-level : levelOf L ≡ Known l) where
+      pub opened-own : {n : ℕ} {c : Option ℕ} → refused n c ≡ unless (outOfRange q) (ownRefusal q) accepted → refused n c ≡ opened L b q
+      unfolding opened
+      opened-own {n} {c} e = rw (le-ltb 5 L (known L l known-level .0)) (at (outOfRange q) e)
+        where
+          at : (t : Bool) → refused n c ≡ unless t (ownRefusal q) accepted → refused n c ≡ unless t (ownRefusal q) (judged L b)
+          at true d = d
+          at false d = let z : _≡_ {A = ℕ} 0 1 = cc in absurd (omega arith)
 
-    -- what the check says, and then the answer
-    pub asked-checked : outOfRange q ≡ false → {o : Outcome (Unit {0})} → o ≡ checked L b → answering o (given L b q) ≡ ask L b q
-    unfolding ask opened checked
-    asked-checked d e = rw (d, e)
+      pub opened-judged : accepted ≡ unless (outOfRange q) (ownRefusal q) accepted → {o : Outcome (Unit {0})} → o ≡ judged (numberOf l) b → o ≡ opened L b q
+      unfolding opened
+      opened-judged e {o} d = rw (le-ltb 5 L (known L l known-level .0)) (at (outOfRange q) e)
+        where
+          at : (t : Bool) → accepted ≡ unless t (ownRefusal q) accepted → o ≡ unless t (ownRefusal q) (judged L b)
+          at true f = let z : _≡_ {A = ℕ} 0 1 = cc in absurd (omega arith)
+          at false f = rw (known L l known-level .1) at d
 
-    pub asked : {l : Level} → levelOf L ≡ Known l → outOfRange q ≡ false → {o : Outcome (Unit {0})} → o ≡ judged (numberOf l) b → answering o (given L b q) ≡ ask L b q
-    asked e d f = asked-checked d (f ∙ checked-known e)
+    -- a question that is opened is in its range, on a table that the level accepts
+    pub opened-parts : accepted ≡ opened L b q → (outOfRange q ≡ false) × (judged L b ≡ accepted)
+    unfolding opened
+    opened-parts = level (ltb 5 L)
+      where
+        own : (t : Bool) → accepted ≡ unless t (ownRefusal q) (judged L b) → (t ≡ false) × (judged L b ≡ accepted)
+        own true e = let z : _≡_ {A = ℕ} 0 1 = cc in absurd (omega arith)
+        own false e = (refl, sym e)
+
+        level : (t : Bool) → accepted ≡ unless t 1 (unless (outOfRange q) (ownRefusal q) (judged L b)) → (outOfRange q ≡ false) × (judged L b ≡ accepted)
+        level true e = let z : _≡_ {A = ℕ} 0 1 = cc in absurd (omega arith)
+        level false e = own (outOfRange q) e
+
+    -- what comes before the answer, and then the answer
+    pub asked-opened : {o : Outcome (Unit {0})} → o ≡ opened L b q → answering o (given L b q) ≡ ask L b q
+    unfolding ask
+    asked-opened e = rw e
 
     -- a question on a field or a bit
     pub given-part : onWhole q ≡ false → given L b q ≡ bySince (since q) L (version b) (valueOf b q)

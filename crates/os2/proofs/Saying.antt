@@ -30,8 +30,10 @@ use Rattle.os2.specs.declared.OpticalAnswer.{OpticalAnswer}
 use Rattle.os2.specs.declared.OpticalAnswer.the-variants as OpticalAnswer·
 use Rattle.os2.specs.declared.OpticalReply.{OpticalReply}
 use Rattle.os2.specs.declared.OpticalReply.the-variants as OpticalReply·
+use Rattle.os2.specs.declared.AnyReply.{AnyReply}
+use Rattle.os2.specs.declared.AnyReply.the-variants as AnyReply·
 use Rattle.os2.specs.Outcomes.{integer, rights, position, sizes, Said, value, absent, not-known, Outcome, refused, answered}
-use Rattle.os2.specs.Replies.{refusalNumber, refusalCarries, saidCheck, saidAnswer, saidReply, saidRightsAnswer, saidRightsReply, saidStyleAnswer, saidStyleReply, saidOpticalAnswer, saidOpticalReply}
+use Rattle.os2.specs.Replies.{refusalNumber, refusalCarries, saidCheck, saidAnswer, saidReply, saidRightsAnswer, saidRightsReply, saidStyleAnswer, saidStyleReply, saidOpticalAnswer, saidOpticalReply, Kind, of-number, of-rights, of-style, of-optical, saidAnyReply}
 
 -- what has a left inverse tells its arguments apart
 once : {A B : Type 0} (say : A → B) (hear : B → A) → ((a : A) → hear (say a) ≡ a) → (a c : A) → say a ≡ say c → a ≡ c
@@ -103,59 +105,74 @@ check-once = once saidCheck hear back
     back Checked·.Accepted = refl
     back (Checked·.Refused r) = ap Checked·.Refused (refusal-back r)
 
-pub reply-once : (r s : Reply) → saidReply r ≡ saidReply s → r ≡ s
-reply-once = once saidReply hear back
-  where
-    hear : Outcome Said → Reply
-    hear (refused n c) = Reply·.Refused (refusalOf n c)
-    hear (answered a) = Reply·.Answered (answerOf a)
+abbrev replyOf : Outcome Said → Reply
+replyOf (refused n c) = Reply·.Refused (refusalOf n c)
+replyOf (answered a) = Reply·.Answered (answerOf a)
 
-    back : (r : Reply) → hear (saidReply r) ≡ r
-    back (Reply·.Answered (Answer·.Value x)) = refl
-    back (Reply·.Answered Answer·.Absent) = refl
-    back (Reply·.Answered Answer·.NotKnown) = refl
-    back (Reply·.Refused r) = ap Reply·.Refused (refusal-back r)
+reply-back : (r : Reply) → replyOf (saidReply r) ≡ r
+reply-back (Reply·.Answered (Answer·.Value x)) = refl
+reply-back (Reply·.Answered Answer·.Absent) = refl
+reply-back (Reply·.Answered Answer·.NotKnown) = refl
+reply-back (Reply·.Refused r) = ap Reply·.Refused (refusal-back r)
+
+pub reply-once : (r s : Reply) → saidReply r ≡ saidReply s → r ≡ s
+reply-once = once saidReply replyOf reply-back
+
+abbrev rightsReplyOf : Outcome Said → RightsReply
+rightsReplyOf (refused n c) = RightsReply·.Refused (refusalOf n c)
+rightsReplyOf (answered a) = RightsReply·.Answered (rightsOf a)
+
+rights-back : (r : RightsReply) → rightsReplyOf (saidRightsReply r) ≡ r
+rights-back (RightsReply·.Answered (RightsAnswer·.Value Installable)) = refl
+rights-back (RightsReply·.Answered (RightsAnswer·.Value Restricted)) = refl
+rights-back (RightsReply·.Answered (RightsAnswer·.Value Preview)) = refl
+rights-back (RightsReply·.Answered (RightsAnswer·.Value Editable)) = refl
+rights-back (RightsReply·.Answered RightsAnswer·.Absent) = refl
+rights-back (RightsReply·.Answered RightsAnswer·.NotKnown) = refl
+rights-back (RightsReply·.Refused r) = ap RightsReply·.Refused (refusal-back r)
 
 pub rights-once : (r s : RightsReply) → saidRightsReply r ≡ saidRightsReply s → r ≡ s
-rights-once = once saidRightsReply hear back
-  where
-    hear : Outcome Said → RightsReply
-    hear (refused n c) = RightsReply·.Refused (refusalOf n c)
-    hear (answered a) = RightsReply·.Answered (rightsOf a)
+rights-once = once saidRightsReply rightsReplyOf rights-back
 
-    back : (r : RightsReply) → hear (saidRightsReply r) ≡ r
-    back (RightsReply·.Answered (RightsAnswer·.Value Installable)) = refl
-    back (RightsReply·.Answered (RightsAnswer·.Value Restricted)) = refl
-    back (RightsReply·.Answered (RightsAnswer·.Value Preview)) = refl
-    back (RightsReply·.Answered (RightsAnswer·.Value Editable)) = refl
-    back (RightsReply·.Answered RightsAnswer·.Absent) = refl
-    back (RightsReply·.Answered RightsAnswer·.NotKnown) = refl
-    back (RightsReply·.Refused r) = ap RightsReply·.Refused (refusal-back r)
+abbrev styleReplyOf : Outcome Said → StyleReply
+styleReplyOf (refused n c) = StyleReply·.Refused (refusalOf n c)
+styleReplyOf (answered a) = StyleReply·.Answered (styleOf a)
+
+style-back : (r : StyleReply) → styleReplyOf (saidStyleReply r) ≡ r
+style-back (StyleReply·.Answered (StyleAnswer·.Value p)) = refl
+style-back (StyleReply·.Answered StyleAnswer·.Absent) = refl
+style-back (StyleReply·.Answered StyleAnswer·.NotKnown) = refl
+style-back (StyleReply·.Refused r) = ap StyleReply·.Refused (refusal-back r)
 
 pub style-once : (r s : StyleReply) → saidStyleReply r ≡ saidStyleReply s → r ≡ s
-style-once = once saidStyleReply hear back
-  where
-    hear : Outcome Said → StyleReply
-    hear (refused n c) = StyleReply·.Refused (refusalOf n c)
-    hear (answered a) = StyleReply·.Answered (styleOf a)
+style-once = once saidStyleReply styleReplyOf style-back
 
-    back : (r : StyleReply) → hear (saidStyleReply r) ≡ r
-    back (StyleReply·.Answered (StyleAnswer·.Value p)) = refl
-    back (StyleReply·.Answered StyleAnswer·.Absent) = refl
-    back (StyleReply·.Answered StyleAnswer·.NotKnown) = refl
-    back (StyleReply·.Refused r) = ap StyleReply·.Refused (refusal-back r)
+abbrev opticalReplyOf : Outcome Said → OpticalReply
+opticalReplyOf (refused n c) = OpticalReply·.Refused (refusalOf n c)
+opticalReplyOf (answered a) = OpticalReply·.Answered (opticalOf a)
+
+optical-back : (r : OpticalReply) → opticalReplyOf (saidOpticalReply r) ≡ r
+optical-back (OpticalReply·.Answered (OpticalAnswer·.Value Every)) = refl
+optical-back (OpticalReply·.Answered (OpticalAnswer·.Value (Upwards a))) = refl
+optical-back (OpticalReply·.Answered (OpticalAnswer·.Value (Between a b))) = refl
+optical-back (OpticalReply·.Answered OpticalAnswer·.Absent) = refl
+optical-back (OpticalReply·.Answered OpticalAnswer·.NotKnown) = refl
+optical-back (OpticalReply·.Refused r) = ap OpticalReply·.Refused (refusal-back r)
 
 pub optical-once : (r s : OpticalReply) → saidOpticalReply r ≡ saidOpticalReply s → r ≡ s
-optical-once = once saidOpticalReply hear back
-  where
-    hear : Outcome Said → OpticalReply
-    hear (refused n c) = OpticalReply·.Refused (refusalOf n c)
-    hear (answered a) = OpticalReply·.Answered (opticalOf a)
+optical-once = once saidOpticalReply opticalReplyOf optical-back
 
-    back : (r : OpticalReply) → hear (saidOpticalReply r) ≡ r
-    back (OpticalReply·.Answered (OpticalAnswer·.Value Every)) = refl
-    back (OpticalReply·.Answered (OpticalAnswer·.Value (Upwards a))) = refl
-    back (OpticalReply·.Answered (OpticalAnswer·.Value (Between a b))) = refl
-    back (OpticalReply·.Answered OpticalAnswer·.Absent) = refl
-    back (OpticalReply·.Answered OpticalAnswer·.NotKnown) = refl
-    back (OpticalReply·.Refused r) = ap OpticalReply·.Refused (refusal-back r)
+pub any-once : (r s : AnyReply) → saidAnyReply r ≡ saidAnyReply s → r ≡ s
+any-once = once saidAnyReply hear back
+  where
+    hear : Kind × Outcome Said → AnyReply
+    hear (of-number, o) = AnyReply·.Number (replyOf o)
+    hear (of-rights, o) = AnyReply·.Rights (rightsReplyOf o)
+    hear (of-style, o) = AnyReply·.Style (styleReplyOf o)
+    hear (of-optical, o) = AnyReply·.Optical (opticalReplyOf o)
+
+    back : (r : AnyReply) → hear (saidAnyReply r) ≡ r
+    back (AnyReply·.Number r) = ap AnyReply·.Number (reply-back r)
+    back (AnyReply·.Rights r) = ap AnyReply·.Rights (rights-back r)
+    back (AnyReply·.Style r) = ap AnyReply·.Style (style-back r)
+    back (AnyReply·.Optical r) = ap AnyReply·.Optical (optical-back r)

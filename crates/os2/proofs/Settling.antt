@@ -15,15 +15,14 @@ use Rattle.os2_rules.specs.declared.Verdict.the-variants.{Kept, Broken}
 use Rattle.os2_rules.proofs.Exactly.{bit-small}
 use Rattle.os2.specs.declared.Question.{Question}
 use Rattle.os2.specs.declared.Question.the-variants.{Field, SelectionBit, UnicodeBit, CodePageBit, Rights, StylePosition, OpticalSizes}
-use Rattle.os2_fields.specs.Fields.{raw, version}
-use Rattle.os2_style.specs.Style.{Sizes, every, upwards, between}
-use Rattle.os2.specs.Outcomes.{Value, rights, sizes, Said, value, absent, not-known, Outcome, refused, answered, answering}
-use Rattle.os2_fields.specs.Fields.{valuesOf}
-use Rattle.os2.specs.Acceptance.{short, ruling, judged}
+use Rattle.os2_fields.specs.Fields.{raw, version, valuesOf}
+use Rattle.os2_style.specs.Style.{Sizes, every, upwards, between, rightsOf, points, sizesOf}
+use Rattle.os2.specs.Outcomes.{Value, rights, sizes, Said, value, absent, not-known, Outcome, refused, answered, answering, accepted, unless, unlessBroken}
+use Rattle.os2.specs.Acceptance.{short, ruling, judged, checked}
 use Rattle.os2.specs.Questions.{outOfRange, ownRefusal, since, onWhole}
-use Rattle.os2_style.specs.Style.{rightsOf, points, sizesOf}
 use Rattle.os2.specs.Asking.{above, valueOf, bySince, given, opened, ask}
-use Rattle.os2.specs.Settled.{Accepted, OwnRefusal, no-field, no-selection-bit, no-unicode-bit, no-code-page-bit, CameIn, field-came, selection-came, selection-came-later, unicode-came, code-page-came, rights-came, style-came, optical-came, OnWhole, rights-whole, style-whole, optical-whole, Later, after, newer, RightsAre, none-set, one-set, SizesAre, all, from-lower, both, Says, field-says, selection-says, unicode-says, code-page-says, rights-say, style-says, optical-says, Settled, level-above, own-number, too-short, rule-broken, is-not-known, is-absent, is-value}
+use Rattle.os2.specs.Settled.{Accepted, OwnRefusal, no-field, no-selection-bit, no-unicode-bit, no-code-page-bit, CameIn, field-came, selection-came, selection-came-later, unicode-came, code-page-came, rights-came, style-came, optical-came, OnWhole, rights-whole, style-whole, optical-whole, Later, after, newer, RightsAre, none-set, one-set, SizesAre, all, from-lower, both, Says, field-says, selection-says, unicode-says, code-page-says, rights-say, style-says, optical-says, Settled, level-above, own-number, too-short, rule-broken, is-not-known, is-absent, is-value, CheckSettled, check-above, check-short, check-broken, check-accepted}
+use Rattle.os2.specs.Demands.{ChecksSettled}
 use Rattle.os2.proofs.Laws.{above-le, above-lt, le-above, lt-above}
 use Rattle.os2.proofs.Accepting.{short-exactly, long-exactly, kept-is, broken-is, judged-exactly}
 
@@ -285,3 +284,21 @@ settled-is L b q a (is-value {p} {v} h c k n m s) =
     let i = came-since c in
     let e : laterTest L b q ≡ false = not-later L b q n (i .0) in
     ask-accepted L b q h (i .0) k ∙ rw (e, le-above (rw (i .1) at m), says-once b (rule-4 L b q k e) s)
+
+-- ---- the check
+
+pub check-settles : ChecksSettled checked
+unfolding checked judged
+check-settles L b = level (ltb 5 L) refl
+  where
+    rule : L ≤ 5 → short L b ≡ false → (v : Verdict) → ruling L b ≡ v → CheckSettled L b (unlessBroken v accepted)
+    rule h s Kept e = let l = long-exactly L b .0 s in check-accepted h (record { two = l .0; sized = l .1; ruled = kept-is L b .0 e })
+    rule h s (Broken k) e = check-broken h (λ x. false≢true (sym s ∙ short-exactly L b .1 x)) (broken-is L b k .0 e)
+
+    size : L ≤ 5 → (t : Bool) → short L b ≡ t → CheckSettled L b (unless t 2 (unlessBroken (ruling L b) accepted))
+    size h true e = check-short h (short-exactly L b .0 e)
+    size h false e = rule h e (ruling L b) refl
+
+    level : (t : Bool) → ltb 5 L ≡ t → CheckSettled L b (unless t 1 (unless (short L b) 2 (unlessBroken (ruling L b) accepted)))
+    level true e = check-above (ltb-true 5 L e)
+    level false e = size (ltb-false 5 L e) (short L b) refl

@@ -7,8 +7,7 @@ use Rattle.level.specs.Sizes.{tableSize}
 use Rattle.os2_rules.specs.Bits.{bit, bits}
 use Rattle.os2_rules.specs.Tests.{weightBroken, widthBroken, typeBroken, rightsBroken, selectionBroken, regularBroken, sizesBroken, verdictOf}
 use Rattle.os2_fields.specs.Catalogue.{catalogue, fieldOf}
-use Rattle.os2_fields.specs.Fields.{rawIn}
-use Rattle.os2_fields.specs.Fields.{valuesOf}
+use Rattle.os2_fields.specs.Fields.{rawIn, valuesOf}
 use Rattle.os2.specs.Acceptance.{underTwo, underSize, short, ruling, judged, checked}
 use Rattle.os2.specs.Questions.{outOfRange, since, onWhole}
 use Rattle.os2.specs.Asking.{valueOf, above, given, opened, ask}

@@ -20,13 +20,13 @@ use Rattle.os2_rules.specs.Tests.{verdictOf}
 use Rattle.os2.specs.declared.Question.{Question}
 use Rattle.os2.specs.declared.Question.the-variants.{Field, SelectionBit, UnicodeBit, CodePageBit, Rights, StylePosition, OpticalSizes}
 use Rattle.os2_fields.specs.Catalogue.{catalogue, fieldOf}
-use Rattle.os2_fields.specs.Fields.{rawIn, valueIn, raw, version}
-use Rattle.os2.specs.Outcomes.{absent, value, not-known}
-use Rattle.os2_fields.specs.Fields.{valuesOf}
-use Rattle.os2.specs.Acceptance.{short, ruling, judged}
+use Rattle.os2_fields.specs.Fields.{rawIn, valueIn, raw, version, valuesOf}
+use Rattle.os2.specs.Outcomes.{absent, value, not-known, unless}
+use Rattle.os2.specs.Acceptance.{short, ruling, judged, checked}
 use Rattle.os2.specs.Questions.{outOfRange, since, onWhole}
 use Rattle.os2.specs.Asking.{above, valueOf, given, ask}
 use Rattle.os2.proofs.Laws.{above-le}
+use Rattle.os2.specs.Demands.{trimmed, ReadsNoMore}
 use Rattle.os2.proofs.Accepting.{long-exactly}
 use Rattle.os2_fields.proofs.Tiling.{inside, range-since, page-since}
 use Rattle.os2.proofs.Settling.{laterTest, tells, given-is, ask-above, ask-own, ask-judged}
@@ -81,10 +81,6 @@ rules-same b =
       optical-same b 47 (omega arith) (omega arith),
     )
 
--- the bytes that level L reads of a table
-abbrev pub trimmed : ℕ → List ℕ → List ℕ
-trimmed L b = take (tableSize (min (version b) L)) b
-
 module _ (L : ℕ) (b : List ℕ) (sized : tableSize (min (version b) L) ≤ length b) where
   version-same : version (trimmed L b) ≡ version b
   unfolding fieldOf catalogue
@@ -120,8 +116,8 @@ module _ (L : ℕ) (b : List ℕ) (sized : tableSize (min (version b) L) ≤ len
           known : laterTest L b q ≡ false → since q ≤ L
           known f = above-le (or-right (onWhole q && above (version b) L) (above (since q) L) f)
 
-pub extra-bytes : (L : ℕ) (b : List ℕ) (q : Question) → ask L (trimmed L b) q ≡ ask L b q
-extra-bytes L b q = size (decLt (length b) (tableSize (min (version b) L)))
+asked-trimmed : (L : ℕ) (b : List ℕ) (q : Question) → ask L (trimmed L b) q ≡ ask L b q
+asked-trimmed L b q = size (decLt (length b) (tableSize (min (version b) L)))
   where
     number : tableSize (min (version b) L) ≤ length b → L ≤ 5 → (t : Bool) → outOfRange q ≡ t → ask L (trimmed L b) q ≡ ask L b q
     number s h true e = ask-own L (trimmed L b) q h e ∙ sym (ask-own L b q h e)
@@ -134,3 +130,14 @@ extra-bytes L b q = size (decLt (length b) (tableSize (min (version b) L)))
     size : Dec (length b < tableSize (min (version b) L)) → ask L (trimmed L b) q ≡ ask L b q
     size (yes h) = rw (take-all (tableSize (min (version b) L)) b (omega arith))
     size (no h) = level (omega arith) (decLt 5 L)
+
+checked-trimmed : (L : ℕ) (b : List ℕ) → checked L (trimmed L b) ≡ checked L b
+unfolding checked
+checked-trimmed L b = size (decLt (length b) (tableSize (min (version b) L)))
+  where
+    size : Dec (length b < tableSize (min (version b) L)) → unless (ltb 5 L) 1 (judged L (trimmed L b)) ≡ unless (ltb 5 L) 1 (judged L b)
+    size (yes h) = rw (take-all (tableSize (min (version b) L)) b (omega arith))
+    size (no h) = rw (judged-same L b (omega arith))
+
+pub extra-bytes : ReadsNoMore checked ask
+extra-bytes L b = (checked-trimmed L b, asked-trimmed L b)

@@ -1,28 +1,59 @@
 -- The demands as predicates over any reader: nothing here speaks of ours.
-use Prim.Native.Nat.{ℕ, _≤_}
+use Prim.Native.Nat.{ℕ, min, _<_, _≤_}
 use mathlib.Core.Path.{_≡_}
 use mathlib.Core.Logic.{_⊎_, _↔_}
 use mathlib.Core.List.{List}
+use lib.ListN.{take}
+use Rattle.level.specs.Sizes.{tableSize}
+use Rattle.os2_fields.specs.Fields.{version}
 use Rattle.os2.specs.declared.Question.{Question}
 use Rattle.os2.specs.Outcomes.{Said, not-known, Outcome, answered, accepted}
-use Rattle.os2.specs.Settled.{Accepted, Later, Settled}
+use Rattle.os2.specs.Settled.{Accepted, CheckSettled, CameIn, Later, Settled}
 
--- demand 2, of a check: "A table is accepted exactly when the OpenType rules condensed in document 01 hold."
+-- demand 2, of a check: "A table is accepted exactly when the OpenType rules condensed in document 01 hold."; a number above 5 accepts none
 abbrev pub AcceptsExactly : (ℕ → List ℕ → Outcome (Unit {0})) → Type 0
-AcceptsExactly check = (L : ℕ) → L ≤ 5 → (b : List ℕ) → (check L b ≡ accepted) ↔ Accepted L b
+AcceptsExactly check = (L : ℕ) (b : List ℕ) → (check L b ≡ accepted) ↔ ((L ≤ 5) × Accepted L b)
+
+-- demand 1, of a check: each refusal has its number, in its order
+abbrev pub ChecksSettled : (ℕ → List ℕ → Outcome (Unit {0})) → Type 0
+ChecksSettled check = (L : ℕ) (b : List ℕ) → CheckSettled L b (check L b)
+
+-- demands 1 and 2, of a reader: to any question on any bytes at any number for a level, the answer that document 01 settles
+abbrev pub AnswersSettled : (ℕ → List ℕ → Question → Outcome Said) → Type 0
+AnswersSettled read = (L : ℕ) (b : List ℕ) (q : Question) → Settled L b q (read L b q)
 
 -- demand 3, at two levels, some bytes and a question
-pub record Agreement (read : ℕ → List ℕ → Question → Outcome Said) (L H : ℕ) (b : List ℕ) (q : Question) : Type 0 where
+pub record Agreement (check : ℕ → List ℕ → Outcome (Unit {0})) (read : ℕ → List ℕ → Question → Outcome Said) (L H : ℕ) (b : List ℕ) (q : Question) : Type 0 where
+  -- "A level accepts the bytes exactly when neither 2's nor 3's condition holds for them there, whatever is asked."
+  pub lower-exactly : (check L b ≡ accepted) ↔ Accepted L b
+  pub higher-exactly : (check H b ≡ accepted) ↔ Accepted H b
   -- "If the higher level accepts the bytes, so does the lower."
-  pub lower-accepts : Accepted H b → Accepted L b
+  pub lower-accepts : check H b ≡ accepted → check L b ≡ accepted
   -- "To the question the lower level then gives the higher level's answer, a refusal's number included, or says "not known""
-  pub same-or-not-known : Accepted H b → (read L b q ≡ read H b q) ⊎ (read L b q ≡ answered not-known)
+  pub same-or-not-known : check H b ≡ accepted → (read L b q ≡ read H b q) ⊎ (read L b q ≡ answered not-known)
   -- "both answers are those that document 01 settles"
   pub lower-settled : Settled L b q (read L b q)
   pub higher-settled : Settled H b q (read H b q)
   -- "On bytes it accepts, the lower level says "not known" exactly when ..."
-  pub not-known-exactly : Accepted L b → (read L b q ≡ answered not-known) ↔ Later L b q
+  pub not-known-exactly : check L b ≡ accepted → (read L b q ≡ answered not-known) ↔ Later L b q
 
 -- "whatever the OS/2 bytes are, for every two levels from 0 to 5, equal ones too, and for every question that document 01 lists"
-abbrev pub Demand3 : (ℕ → List ℕ → Question → Outcome Said) → Type 0
-Demand3 read = (L H : ℕ) → L ≤ H → H ≤ 5 → (b : List ℕ) (q : Question) → Agreement read L H b q
+abbrev pub Demand3 : (ℕ → List ℕ → Outcome (Unit {0})) → (ℕ → List ℕ → Question → Outcome Said) → Type 0
+Demand3 check read = (L H : ℕ) → L ≤ H → H ≤ 5 → (b : List ℕ) (q : Question) → Agreement check read L H b q
+
+-- ---- beside the demands
+
+-- the first bytes of a table, up to the size for the smaller of w and L
+abbrev pub trimmed : ℕ → List ℕ → List ℕ
+trimmed L b = take (tableSize (min (version b) L)) b
+
+-- "Extra bytes are allowed and not read.": a table's first bytes, up to the size for the smaller of w and L, say all that the table says
+abbrev pub ReadsNoMore : (ℕ → List ℕ → Outcome (Unit {0})) → (ℕ → List ℕ → Question → Outcome Said) → Type 0
+ReadsNoMore check read = (L : ℕ) (b : List ℕ) →
+    (check L (trimmed L b) ≡ check L b) × ((q : Question) → read L (trimmed L b) q ≡ read L b q)
+
+-- what two levels owe each other also where the higher refuses: of what came in with version 0, both give the same answer, or the lower accepts the
+-- bytes and the table's version is above it
+abbrev pub SameOrNewer : (ℕ → List ℕ → Question → Outcome Said) → Type 0
+SameOrNewer read = (L H : ℕ) → L ≤ H → H ≤ 5 → (b : List ℕ) (q : Question) → CameIn q 0 →
+    (read L b q ≡ read H b q) ⊎ (Accepted L b × (L < version b))

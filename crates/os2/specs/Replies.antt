@@ -22,6 +22,8 @@ use Rattle.os2.specs.declared.OpticalAnswer.{OpticalAnswer}
 use Rattle.os2.specs.declared.OpticalAnswer.the-variants as OpticalAnswer·
 use Rattle.os2.specs.declared.OpticalReply.{OpticalReply}
 use Rattle.os2.specs.declared.OpticalReply.the-variants as OpticalReply·
+use Rattle.os2.specs.declared.Question.{Question}
+use Rattle.os2.specs.declared.Question.the-variants.{Field, SelectionBit, UnicodeBit, CodePageBit, Rights, StylePosition, OpticalSizes}
 use Rattle.os2.specs.declared.AnyReply.{AnyReply}
 use Rattle.os2.specs.declared.AnyReply.the-variants as AnyReply·
 use Rattle.os2.specs.Outcomes.{integer, rights, position, sizes, Said, value, absent, not-known, Outcome, refused, answered, accepted}
@@ -42,9 +44,12 @@ refusalCarries (RuleBroken k) = some k
 refusalCarries NoField = none
 refusalCarries NoBit = none
 
+abbrev pub saidRefusal : {A : Type 0} → Refusal → Outcome A
+saidRefusal r = refused (refusalNumber r) (refusalCarries r)
+
 abbrev pub saidCheck : Checked → Outcome (Unit {0})
 saidCheck Checked·.Accepted = accepted
-saidCheck (Checked·.Refused r) = refused (refusalNumber r) (refusalCarries r)
+saidCheck (Checked·.Refused r) = saidRefusal r
 
 -- ---- fields and bits
 
@@ -55,7 +60,7 @@ saidAnswer Answer·.NotKnown = not-known
 
 abbrev pub saidReply : Reply → Outcome Said
 saidReply (Reply·.Answered a) = answered (saidAnswer a)
-saidReply (Reply·.Refused r) = refused (refusalNumber r) (refusalCarries r)
+saidReply (Reply·.Refused r) = saidRefusal r
 
 -- ---- rights: the bit of fsType, 0 for none
 
@@ -66,7 +71,7 @@ saidRightsAnswer RightsAnswer·.NotKnown = not-known
 
 abbrev pub saidRightsReply : RightsReply → Outcome Said
 saidRightsReply (RightsReply·.Answered a) = answered (saidRightsAnswer a)
-saidRightsReply (RightsReply·.Refused r) = refused (refusalNumber r) (refusalCarries r)
+saidRightsReply (RightsReply·.Refused r) = saidRefusal r
 
 -- ---- the style position
 
@@ -77,7 +82,7 @@ saidStyleAnswer StyleAnswer·.NotKnown = not-known
 
 abbrev pub saidStyleReply : StyleReply → Outcome Said
 saidStyleReply (StyleReply·.Answered a) = answered (saidStyleAnswer a)
-saidStyleReply (StyleReply·.Refused r) = refused (refusalNumber r) (refusalCarries r)
+saidStyleReply (StyleReply·.Refused r) = saidRefusal r
 
 -- ---- optical sizes
 
@@ -88,12 +93,27 @@ saidOpticalAnswer OpticalAnswer·.NotKnown = not-known
 
 abbrev pub saidOpticalReply : OpticalReply → Outcome Said
 saidOpticalReply (OpticalReply·.Answered a) = answered (saidOpticalAnswer a)
-saidOpticalReply (OpticalReply·.Refused r) = refused (refusalNumber r) (refusalCarries r)
+saidOpticalReply (OpticalReply·.Refused r) = saidRefusal r
 
--- ---- any question
+-- ---- any question: the kind of its reply, and what that says
 
-abbrev pub saidAnyReply : AnyReply → Outcome Said
-saidAnyReply (AnyReply·.Number r) = saidReply r
-saidAnyReply (AnyReply·.Rights r) = saidRightsReply r
-saidAnyReply (AnyReply·.Style r) = saidStyleReply r
-saidAnyReply (AnyReply·.Optical r) = saidOpticalReply r
+pub data Kind : Type 0 where
+  of-number : Kind
+  of-rights : Kind
+  of-style : Kind
+  of-optical : Kind
+
+abbrev pub kindOf : Question → Kind
+kindOf (Field k) = of-number
+kindOf (SelectionBit n) = of-number
+kindOf (UnicodeBit n) = of-number
+kindOf (CodePageBit n) = of-number
+kindOf Rights = of-rights
+kindOf StylePosition = of-style
+kindOf OpticalSizes = of-optical
+
+abbrev pub saidAnyReply : AnyReply → Kind × Outcome Said
+saidAnyReply (AnyReply·.Number r) = (of-number, saidReply r)
+saidAnyReply (AnyReply·.Rights r) = (of-rights, saidRightsReply r)
+saidAnyReply (AnyReply·.Style r) = (of-style, saidStyleReply r)
+saidAnyReply (AnyReply·.Optical r) = (of-optical, saidOpticalReply r)

@@ -12,11 +12,9 @@ use Rattle.os2_rules.specs.Rules.{Rules, FirstBroken}
 use Rattle.os2.specs.declared.Question.{Question}
 use Rattle.os2.specs.declared.Question.the-variants.{Field, SelectionBit, UnicodeBit, CodePageBit, Rights, StylePosition, OpticalSizes}
 use Rattle.os2_fields.specs.Catalogue.{fieldOf}
-use Rattle.os2_fields.specs.Fields.{valueIn, raw, version}
-use Rattle.os2_style.specs.Style.{Sizes, every, upwards, between}
-use Rattle.os2.specs.Outcomes.{Value, integer, rights, position, sizes, Said, value, absent, not-known, Outcome, refused, answered}
-use Rattle.os2_fields.specs.Fields.{valuesOf}
-use Rattle.os2_style.specs.Style.{float, percentOf, points}
+use Rattle.os2_fields.specs.Fields.{valueIn, raw, version, valuesOf}
+use Rattle.os2_style.specs.Style.{Sizes, every, upwards, between, float, percentOf, points}
+use Rattle.os2.specs.Outcomes.{Value, integer, rights, position, sizes, Said, value, absent, not-known, Outcome, refused, answered, accepted}
 
 -- ---- acceptance
 
@@ -33,6 +31,13 @@ pub record Accepted (L : ℕ) (b : List ℕ) : Type 0 where
   pub two : 2 ≤ length b
   pub sized : tableSize (min (version b) L) ≤ length b
   pub ruled : version b ≤ L → Rules (valuesOf b)
+
+-- what a level, given by any number, says of a table: "1 .. 2, 3", and acceptance last
+pub data CheckSettled (L : ℕ) (b : List ℕ) : Outcome (Unit {0}) → Type 0 where
+  check-above : 5 < L → CheckSettled L b (refused 1 none)
+  check-short : L ≤ 5 → Short L b → CheckSettled L b (refused 2 none)
+  check-broken : {k : ℕ} → L ≤ 5 → (Short L b → ⊥) → BreaksFirst L b k → CheckSettled L b (refused 3 (some k))
+  check-accepted : L ≤ 5 → Accepted L b → CheckSettled L b accepted
 
 -- ---- the questions
 

@@ -10,12 +10,14 @@ ghost use Rattle.level.specs.Levels.{numberOf};
 ghost use Rattle.level.specs.Sizes.{tableSize};
 ghost use Rattle.os2_rules.specs.Bits.{bit};
 ghost use Rattle.os2_fields.specs.Fields.{raw, version};
-ghost use Rattle.os2.specs.Outcomes.{accepted, integer};
+ghost use mathlib.Core.Option.{none};
+ghost use lib.Dec.{ltb};
+ghost use Rattle.os2.specs.Outcomes.{accepted, integer, unless};
 ghost use Rattle.os2.specs.Acceptance.{judged, checked};
-ghost use Rattle.os2.specs.Asking.{above, ask, given, bySince};
-ghost use Rattle.os2.specs.Questions.{since};
+ghost use Rattle.os2.specs.Asking.{above, ask, given, bySince, opened};
+ghost use Rattle.os2.specs.Questions.{since, outOfRange, ownRefusal};
 ghost use Rattle.os2.specs.Reading.{BitAsked};
-ghost use Rattle.os2.specs.Replies.{refusalNumber, saidCheck, saidAnswer, saidReply, saidRightsAnswer, saidRightsReply, saidStyleAnswer, saidStyleReply, saidOpticalAnswer, saidOpticalReply, saidAnyReply};
+ghost use Rattle.os2.specs.Replies.{refusalNumber, refusalCarries, saidCheck, saidAnswer, saidReply, saidRightsAnswer, saidRightsReply, saidStyleAnswer, saidStyleReply, saidOpticalAnswer, saidOpticalReply, saidAnyReply, kindOf};
 use level::Level;
 use level::LevelAnswer;
 use os2_fields::CODE_PAGES;
@@ -63,12 +65,15 @@ impl Refusal {
 
 // What a level says of a table.
 pub enum Checked {
+    // Neither 2's nor 3's condition holds.
     Accepted,
+    // 1, 2 or 3; of a question also 6 or 7.
     Refused(Refusal),
 }
 
 // The answer on a field or a bit, one of document 01's three. A bit is 0 or 1.
 pub enum Answer {
+    // The field's number with its sign, or the bit.
     Value(i64),
     // The table's version is below that of what is asked for.
     Absent,
@@ -82,34 +87,46 @@ pub enum Reply {
     Refused(Refusal),
 }
 
+// The answer on rights.
 pub enum RightsAnswer {
     Value(EmbeddingRights),
+    // Never given: rights came in with version 0.
     Absent,
+    // The table's version is above the level.
     NotKnown,
 }
 
+// An answer on rights, or the refusal beside it.
 pub enum RightsReply {
     Answered(RightsAnswer),
     Refused(Refusal),
 }
 
+// The answer on the style position.
 pub enum StyleAnswer {
     Value(StylePosition),
+    // Never given: the style position came in with version 0.
     Absent,
+    // The table's version is above the level.
     NotKnown,
 }
 
+// An answer on the style position, or the refusal beside it.
 pub enum StyleReply {
     Answered(StyleAnswer),
     Refused(Refusal),
 }
 
+// The answer on optical sizes.
 pub enum OpticalAnswer {
     Value(OpticalSizes),
+    // The table's version is below 5.
     Absent,
+    // The level is below 5, or the table's version is above it.
     NotKnown,
 }
 
+// An answer on optical sizes, or the refusal beside it.
 pub enum OpticalReply {
     Answered(OpticalAnswer),
     Refused(Refusal),
@@ -117,9 +134,13 @@ pub enum OpticalReply {
 
 // The seven questions.
 pub enum Question {
+    // A field, 0 to 47; 6 above.
     Field(u32),
+    // A bit of fsSelection, 0 to 9; 7 above.
     SelectionBit(u32),
+    // A bit of the Unicode ranges, 0 to 127; 7 above.
     UnicodeBit(u32),
+    // A bit of the code pages, 0 to 63; 7 above.
     CodePageBit(u32),
     Rights,
     StylePosition,
@@ -146,7 +167,7 @@ pub fn check(table: &[u8], level: u32) -> Checked
 
 // Any of the seven questions.
 pub fn ask(table: &[u8], level: u32, question: Question) -> AnyReply
-    ensures { λ r. ⌜ saidAnyReply r ≡ ask level (now (table .entry)) question ⌝ }
+    ensures { λ r. ⌜ saidAnyReply r ≡ (kindOf question, ask level (now (table .entry)) question) ⌝ }
 {
     match question {
         Question::Field(number) => AnyReply::Number(field(table, level, number)),
@@ -163,13 +184,7 @@ pub fn ask(table: &[u8], level: u32, question: Question) -> AnyReply
 pub fn field(table: &[u8], level: u32, number: u32) -> Reply
     ensures { λ r. ⌜ saidReply r ≡ ask level (now (table .entry)) (Question.Field number) ⌝ }
 {
-    let LevelAnswer::Known(known) = Level::new(level) else {
-        return Reply::Refused(Refusal::LevelAbove);
-    };
-    if 47 < number {
-        return Reply::Refused(Refusal::NoField);
-    }
-    match judge(table, known) {
+    match opened(table, level, Question::Field(number)) {
         Checked::Refused(why) => Reply::Refused(why),
         Checked::Accepted => Reply::Answered(field_answer(table, level, number as usize)),
     }
@@ -179,13 +194,7 @@ pub fn field(table: &[u8], level: u32, number: u32) -> Reply
 pub fn selection_bit(table: &[u8], level: u32, number: u32) -> Reply
     ensures { λ r. ⌜ saidReply r ≡ ask level (now (table .entry)) (Question.SelectionBit number) ⌝ }
 {
-    let LevelAnswer::Known(known) = Level::new(level) else {
-        return Reply::Refused(Refusal::LevelAbove);
-    };
-    if 9 < number {
-        return Reply::Refused(Refusal::NoBit);
-    }
-    match judge(table, known) {
+    match opened(table, level, Question::SelectionBit(number)) {
         Checked::Refused(why) => Reply::Refused(why),
         Checked::Accepted => Reply::Answered(bit_answer(
             table,
@@ -201,13 +210,7 @@ pub fn selection_bit(table: &[u8], level: u32, number: u32) -> Reply
 pub fn unicode_bit(table: &[u8], level: u32, number: u32) -> Reply
     ensures { λ r. ⌜ saidReply r ≡ ask level (now (table .entry)) (Question.UnicodeBit number) ⌝ }
 {
-    let LevelAnswer::Known(known) = Level::new(level) else {
-        return Reply::Refused(Refusal::LevelAbove);
-    };
-    if 127 < number {
-        return Reply::Refused(Refusal::NoBit);
-    }
-    match judge(table, known) {
+    match opened(table, level, Question::UnicodeBit(number)) {
         Checked::Refused(why) => Reply::Refused(why),
         Checked::Accepted => Reply::Answered(bit_answer(
             table,
@@ -223,13 +226,7 @@ pub fn unicode_bit(table: &[u8], level: u32, number: u32) -> Reply
 pub fn code_page_bit(table: &[u8], level: u32, number: u32) -> Reply
     ensures { λ r. ⌜ saidReply r ≡ ask level (now (table .entry)) (Question.CodePageBit number) ⌝ }
 {
-    let LevelAnswer::Known(known) = Level::new(level) else {
-        return Reply::Refused(Refusal::LevelAbove);
-    };
-    if 63 < number {
-        return Reply::Refused(Refusal::NoBit);
-    }
-    match judge(table, known) {
+    match opened(table, level, Question::CodePageBit(number)) {
         Checked::Refused(why) => Reply::Refused(why),
         Checked::Accepted => Reply::Answered(bit_answer(
             table,
@@ -245,7 +242,7 @@ pub fn code_page_bit(table: &[u8], level: u32, number: u32) -> Reply
 pub fn rights(table: &[u8], level: u32) -> RightsReply
     ensures { λ r. ⌜ saidRightsReply r ≡ ask level (now (table .entry)) Question.Rights ⌝ }
 {
-    match check(table, level) {
+    match opened(table, level, Question::Rights) {
         Checked::Refused(why) => RightsReply::Refused(why),
         Checked::Accepted => RightsReply::Answered(rights_answer(table, level)),
     }
@@ -255,7 +252,7 @@ pub fn rights(table: &[u8], level: u32) -> RightsReply
 pub fn style_position(table: &[u8], level: u32) -> StyleReply
     ensures { λ r. ⌜ saidStyleReply r ≡ ask level (now (table .entry)) Question.StylePosition ⌝ }
 {
-    match check(table, level) {
+    match opened(table, level, Question::StylePosition) {
         Checked::Refused(why) => StyleReply::Refused(why),
         Checked::Accepted => StyleReply::Answered(style_answer(table, level)),
     }
@@ -265,10 +262,49 @@ pub fn style_position(table: &[u8], level: u32) -> StyleReply
 pub fn optical_sizes(table: &[u8], level: u32) -> OpticalReply
     ensures { λ r. ⌜ saidOpticalReply r ≡ ask level (now (table .entry)) Question.OpticalSizes ⌝ }
 {
-    match check(table, level) {
+    match opened(table, level, Question::OpticalSizes) {
         Checked::Refused(why) => OpticalReply::Refused(why),
         Checked::Accepted => OpticalReply::Answered(optical_answer(table, level)),
     }
+}
+
+// What comes before the answer: refusal 1, the question's own, then 2 and 3.
+fn opened(table: &[u8], level: u32, question: Question) -> Checked
+    ensures { λ r. ⌜ saidCheck r ≡ opened level (now (table .entry)) question ⌝ }
+{
+    let LevelAnswer::Known(known) = Level::new(level) else {
+        return Checked::Refused(Refusal::LevelAbove);
+    };
+    match in_range(question) {
+        Checked::Refused(why) => Checked::Refused(why),
+        Checked::Accepted => judge(table, known),
+    }
+}
+
+// Refusals 6 and 7.
+fn in_range(question: Question) -> Checked
+    ensures { λ r. ⌜ saidCheck r ≡ unless (outOfRange question) (ownRefusal question) accepted ⌝ }
+{
+    match question {
+        Question::Field(number) => at_most(number, 47, Refusal::NoField),
+        Question::SelectionBit(number) => at_most(number, 9, Refusal::NoBit),
+        Question::UnicodeBit(number) => at_most(number, 127, Refusal::NoBit),
+        Question::CodePageBit(number) => at_most(number, 63, Refusal::NoBit),
+        Question::Rights => Checked::Accepted,
+        Question::StylePosition => Checked::Accepted,
+        Question::OpticalSizes => Checked::Accepted,
+    }
+}
+
+// The refusal of a number above the largest.
+fn at_most(number: u32, largest: u32, why: Refusal) -> Checked
+    requires { ⌜ refusalCarries why ≡ none ⌝ }
+    ensures { λ r. ⌜ saidCheck r ≡ unless (ltb largest number) (refusalNumber why) accepted ⌝ }
+{
+    if largest < number {
+        return Checked::Refused(why);
+    }
+    Checked::Accepted
 }
 
 // Refusals 2 and 3.
@@ -291,6 +327,14 @@ fn judge(table: &[u8], known: Level) -> Checked
     }
 }
 
+// The version stored in a table.
+fn version_of(table: &[u8]) -> u32
+    requires { ⌜ 2 ≤ length (now table) ⌝ }
+    ensures { λ r. ⌜ r ≡ version (now (table .entry)) ⌝ }
+{
+    os2_fields::word(table, VERSION) as u32
+}
+
 // The size for the smaller of a version and a level.
 fn size_read(version: u32, known: Level) -> usize
     ensures { λ r. ⌜ r ≡ tableSize (min version (numberOf known)) ⌝ }
@@ -300,14 +344,6 @@ fn size_read(version: u32, known: Level) -> usize
     } else {
         known.table_size()
     }
-}
-
-// The version stored in a table.
-fn version_of(table: &[u8]) -> u32
-    requires { ⌜ 2 ≤ length (now table) ⌝ }
-    ensures { λ r. ⌜ r ≡ version (now (table .entry)) ⌝ }
-{
-    os2_fields::word(table, VERSION) as u32
 }
 
 // A field of an accepted table.
@@ -341,11 +377,11 @@ fn bit_answer(table: &[u8], level: u32, since: u32, k: usize, n: u32) -> Answer
     Answer::Value(os2_fields::plain(os2_fields::bit_of(number, n)))
 }
 
-// Whether version p is above a level or another version.
-fn above(p: u32, level: u32) -> bool
-    ensures { λ r. ⌜ r ≡ above p level ⌝ }
+// Whether a version is above a level, or above another version.
+fn above(version: u32, bound: u32) -> bool
+    ensures { λ r. ⌜ r ≡ above version bound ⌝ }
 {
-    level < p
+    bound < version
 }
 
 // The version that a bit of fsSelection came in with.

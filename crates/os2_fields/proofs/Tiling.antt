@@ -145,6 +145,10 @@ inside k v h s = le-trans (fields k h .inside) (size-rises (fieldOf k .since) v 
 pub outside : (k v : ℕ) → k < 48 → v < fieldOf k .since → tableSize v ≤ fieldOf k .offset
 outside k v h s = fields k h .outside v s
 
+-- the last field that a version has ends where the version's size does
+pub fills : (k v : ℕ) → k < 47 → fieldOf k .since ≤ v → v < fieldOf (suc k) .since → fieldOf k .offset + fieldOf k .width ≡ tableSize v
+fills k v h s l = omega (arith, inside k v (omega arith) s, outside (suc k) v (omega arith) l, adjoin k h)
+
 -- a later field came in no earlier
 pub since-rises : (j k : ℕ) → j ≤ k → k < 48 → fieldOf j .since ≤ fieldOf k .since
 since-rises j zero h l = let e : j ≡ 0 = omega arith in rw e (le-refl (fieldOf 0 .since))

@@ -40,6 +40,7 @@ pub fn entry(k: usize) -> Field
 }
 
 const FIELDS: [Field; 48] = [
+    // 0 version, 1 average width, 2 weight, 3 width, 4 fsType
     Field {
         offset: 0,
         width: 2,
@@ -70,6 +71,7 @@ const FIELDS: [Field; 48] = [
         signed: false,
         since: 0,
     },
+    // 5 to 8 subscript x size, y size, x offset, y offset; 9 to 12 superscript, same
     Field {
         offset: 10,
         width: 2,
@@ -118,6 +120,7 @@ const FIELDS: [Field; 48] = [
         signed: true,
         since: 0,
     },
+    // 13 strikeout size, 14 its position, 15 family class
     Field {
         offset: 26,
         width: 2,
@@ -136,6 +139,7 @@ const FIELDS: [Field; 48] = [
         signed: true,
         since: 0,
     },
+    // 16 to 25 PANOSE
     Field {
         offset: 32,
         width: 1,
@@ -196,6 +200,7 @@ const FIELDS: [Field; 48] = [
         signed: false,
         since: 0,
     },
+    // 26 to 29 Unicode ranges
     Field {
         offset: 42,
         width: 4,
@@ -220,12 +225,14 @@ const FIELDS: [Field; 48] = [
         signed: false,
         since: 0,
     },
+    // 30 vendor
     Field {
         offset: 58,
         width: 4,
         signed: false,
         since: 0,
     },
+    // 31 fsSelection, 32 first char, 33 last char
     Field {
         offset: 62,
         width: 2,
@@ -244,6 +251,7 @@ const FIELDS: [Field; 48] = [
         signed: false,
         since: 0,
     },
+    // 34 to 36 typo ascender, descender, gap; 37, 38 win ascent, descent
     Field {
         offset: 68,
         width: 2,
@@ -274,6 +282,7 @@ const FIELDS: [Field; 48] = [
         signed: false,
         since: 0,
     },
+    // 39, 40 code pages
     Field {
         offset: 78,
         width: 4,
@@ -286,6 +295,7 @@ const FIELDS: [Field; 48] = [
         signed: false,
         since: 1,
     },
+    // 41 x height, 42 cap height, 43 default, 44 break, 45 max context
     Field {
         offset: 86,
         width: 2,
@@ -316,6 +326,7 @@ const FIELDS: [Field; 48] = [
         signed: false,
         since: 2,
     },
+    // 46, 47 lower, upper optical size
     Field {
         offset: 96,
         width: 2,

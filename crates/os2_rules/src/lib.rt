@@ -74,7 +74,7 @@ fn type_broken(fstype: u16) -> bool
     0 < fstype / 16 % 16 || 0 < fstype / 1024 % 64
 }
 
-// Rule 4. The version does not matter to it.
+// Rule 4. It takes the version as rules 5 and 7 do, and holds in every version.
 fn rights_broken(version: u16, fstype: u16) -> bool
     ensures { λ r. ⌜ r ≡ rightsBroken version fstype ⌝ }
 {

@@ -27,7 +27,7 @@ rightsOf fstype = cond (ltb 0 (bit 3 fstype)) 3 (cond (ltb 0 (bit 2 fstype)) 2 (
 abbrev pub float : ℕ → Float
 float n = ofInt binary32 (pos n)
 
--- "width classes 1 to 9 being 50, 62.5, 75, 87.5, 100, 112.5, 125, 150, 200": the bits of each literal
+-- "width classes 1 to 9 being 50, 62.5, 75, 87.5, 100, 112.5, 125, 150, 200": the bits of each literal. Rule 2 keeps other classes out
 unfoldable pub percentOf : ℕ → Float
 percentOf width =
     getD

@@ -51,7 +51,7 @@ pub fn rights_of(fstype: u16) -> EmbeddingRights
 const PERCENTS: [f32; 9] = [50.0, 62.5, 75.0, 87.5, 100.0, 112.5, 125.0, 150.0, 200.0];
 
 // The percentage of a width class.
-pub fn percent(width: u16) -> f32
+fn percent(width: u16) -> f32
     requires { ⌜ WidthRule width ⌝ }
     ensures { λ r. ⌜ r ≡ percentOf width ⌝ }
 {

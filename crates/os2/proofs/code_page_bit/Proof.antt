@@ -1,56 +1,28 @@
--- Each return is the way to the outcome that its law names, in document 01's order.
+-- The refusal, or else the answer on the bit.
 -- Assumes nothing.
-use mathlib.Core.Path.{_≡_, refl, sym, ap, _∙_}
-use mathlib.Core.Bool.{false}
+use Prim.Native.Nat.{_/_, _≤_}
+use mathlib.Core.Path.{refl, sym, ap, _∙_}
 use native.Mathlib.Omega.{arith}
-use borrow.Author.Tests.{lt-ltb, le-ltb}
-use Rattle.level.specs.Levels.{levelOf}
-use Rattle.level.specs.declared.LevelAnswer.the-variants.{Known}
+use borrow.Author.Tests.{ltb-false}
 use Rattle.os2.specs.declared.Question.the-variants.{CodePageBit}
 use Rattle.os2.specs.Outcomes.{answered}
 use Rattle.os2.specs.Replies.{saidCheck}
-use Rattle.os2.specs.Questions.{outOfRange, ownRefusal, since, onWhole}
+use Rattle.os2.specs.Questions.{outOfRange, since, onWhole}
 use Rattle.os2.specs.Asking.{valueOf}
-use Rattle.os2.proofs.Asked.{open-known, asked-refused, asked-own, asked, given-part}
-use Prim.Native.Nat.{_/_}
+use Rattle.os2.proofs.Asked.{opened-parts, asked-opened, given-part}
 use Rattle.os2_fields.proofs.Tiling.{page-since}
 use borrow.Author.Needs.{needs}
 use Rattle.os2.proofs.code_page_bit.Statement.{statement}
 use Rattle.os2.proofs.code_page_bit.Tie as tie
 
--- the level is known
-level-is : (c : tie.After-known-told) → levelOf (c .before .before .before .before .before .args .level) ≡ Known (c .before .known .given .0 .0)
-level-is c = sym (c .before .before .before .new .ensures) ∙ c .before .known .given .1
-
--- the number is in its range
-in-range : (c : tie.Else1) → outOfRange (CodePageBit (c .before .before .before .before .before .before .args .number)) ≡ false
-unfolding outOfRange
-in-range c = le-ltb _ _ (c .if1 .left)
-
-new-requires : tie.Need-new-requires
-new-requires c κs = search needs
-
-enum-known-known : tie.Need-enum-known-known
-enum-known-known c = search needs
-
-enum-told : tie.Need-enum-told
-enum-told c = search needs
-
-returns : tie.Need-returns
-returns c = asked-refused _ _ _ (sym (c .before .before .new .ensures) ∙ c .enum-told .given .1)
-
-returns-2 : tie.Need-returns-2
-unfolding outOfRange ownRefusal
-returns-2 c = asked-own _ _ (CodePageBit (c .before .before .before .before .before .before .args .number)) (level-is (c .before)) (lt-ltb _ _ (c .if1 .taken))
-
-judge-requires : tie.Need-judge-requires
-judge-requires c κs = search needs
+opened-requires : tie.Need-opened-requires
+opened-requires c κs = search needs
 
 enum-known-why : tie.Need-enum-known-why
 enum-known-why c = search needs
 
-enum-told-2 : tie.Need-enum-told-2
-enum-told-2 c = search needs
+enum-told : tie.Need-enum-told
+enum-told c = search needs
 
 cast-bit-answer : tie.Need-cast-bit-answer
 cast-bit-answer c = search needs
@@ -59,35 +31,28 @@ add-bit-answer : tie.Need-add-bit-answer
 add-bit-answer c = search needs
 
 bit-answer-requires : tie.Need-bit-answer-requires
+unfolding outOfRange
 bit-answer-requires c κs =
-    record {
-      opened = open-known _ _ (level-is (c .before .before .before .before)) (sym (ap saidCheck (c .enum-told2 .given .1)) ∙ c .before .before .judge .ensures);
-      field = omega arith;
-      came = page-since (c .before .before .before .before .before .before .before .before .before .args .number / 32) (omega arith);
-      low = omega arith;
-    }
+    let p = opened-parts _ _ (CodePageBit (c .before .before .before .before .args .number)) (sym (ap saidCheck (c .enum-told .given .1)) ∙ c .before .before .opened .ensures) in
+    let h : c .before .before .before .before .args .number ≤ 63 = ltb-false 63 (c .before .before .before .before .args .number) (p .0) in
+    record { opened = p .1; field = omega arith; came = page-since (c .before .before .before .before .args .number / 32) (omega arith); low = omega arith }
 
-returns-3 : tie.Need-returns-3
-returns-3 c = asked _ _ _ (level-is (c .before .before .before .before .before)) (in-range (c .before .before .before .before)) (sym (ap saidCheck (c .before .why .given .1)) ∙ c .before .before .before .judge .ensures)
+returns : tie.Need-returns
+returns c = asked-opened _ _ (CodePageBit (c .before .before .before .before .before .args .number)) (sym (ap saidCheck (c .before .why .given .1)) ∙ c .before .before .before .opened .ensures)
 
-returns-4 : tie.Need-returns-4
+returns-2 : tie.Need-returns-2
 unfolding since onWhole valueOf
-returns-4 c = ap answered (c .bit-answer .ensures ∙ sym (given-part _ _ (CodePageBit (c .before .before .before .before .before .before .before .before .before .before .args .number)) refl)) ∙ asked _ _ _ (level-is (c .before .before .before .before .before)) (in-range (c .before .before .before .before)) (sym (ap saidCheck (c .before .enum-told2 .given .1)) ∙ c .before .before .before .judge .ensures)
+returns-2 c = ap answered (c .bit-answer .ensures ∙ sym (given-part _ _ (CodePageBit (c .before .before .before .before .before .args .number)) refl)) ∙ asked-opened _ _ (CodePageBit (c .before .before .before .before .before .args .number)) (sym (ap saidCheck (c .before .enum-told .given .1)) ∙ c .before .before .before .opened .ensures)
 
 pub code-page-bit-spec : {M : Type 1} → statement M
 code-page-bit-spec =
     tie.close
     (tie.spec
-    new-requires
-    enum-known-known
-    enum-told
-    returns
-    returns-2
-    judge-requires
+    opened-requires
     enum-known-why
-    enum-told-2
+    enum-told
     cast-bit-answer
     add-bit-answer
     bit-answer-requires
-    returns-3
-    returns-4)
+    returns
+    returns-2)

@@ -6,8 +6,7 @@ use Prim.Native.Nat.{zero-le}
 use native.Mathlib.Omega.{arith}
 use Rattle.os2.specs.declared.Question.the-variants.{StylePosition}
 use Rattle.os2_fields.specs.Catalogue.{catalogue, fieldOf}
-use Rattle.os2_fields.specs.Fields.{version}
-use Rattle.os2_fields.specs.Fields.{valuesOf}
+use Rattle.os2_fields.specs.Fields.{version, valuesOf}
 use Rattle.os2.specs.Questions.{since, onWhole}
 use Rattle.os2.specs.Asking.{above, valueOf}
 use Rattle.os2.proofs.Laws.{above-le}

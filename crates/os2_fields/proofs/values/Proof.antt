@@ -4,8 +4,7 @@ use mathlib.Core.Path.{refl}
 use Prim.Native.Nat.{zero-le}
 use native.Mathlib.Omega.{arith}
 use Rattle.os2_fields.specs.Catalogue.{catalogue, fieldOf}
-use Rattle.os2_fields.specs.Fields.{version}
-use Rattle.os2_fields.specs.Fields.{valuesOf}
+use Rattle.os2_fields.specs.Fields.{version, valuesOf}
 use Rattle.os2_fields.proofs.Tiling.{word}
 use Rattle.os2_fields.proofs.values.Statement.{statement}
 use Rattle.os2_fields.proofs.values.Tie as tie
