@@ -1,2 +1,4 @@
 pub mod Tables
+pub mod FormLaws
+pub mod NameLaws
 pub mod VersionLaws

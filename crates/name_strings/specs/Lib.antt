@@ -1,2 +1,4 @@
 pub mod Records
+pub mod Forms
+pub mod Names
 pub mod Versions

@@ -1,11 +1,13 @@
 -- What both questions share: the table's refusal first, and the bytes of a record's string.
-use Prim.Native.Nat.{ℕ}
+use Prim.Native.Nat.{ℕ, _<_}
+use mathlib.Core.Path.{_≡_}
 use mathlib.Core.List.{List}
 use lib.ListN.{take, drop}
 use Rattle.name.specs.declared.Refusal.{Refusal}
 use Rattle.name.specs.declared.Verdict.{Verdict}
 use Rattle.name.specs.declared.Verdict.the-variants.{Accepted, Refused}
-use Rattle.name.specs.Layout.{textAt, stringStart, stringLength}
+use Rattle.name.specs.Acceptance.{checkOf}
+use Rattle.name.specs.Layout.{count, textAt, stringStart, stringLength}
 
 -- "Every 'name' question checks the whole table first and passes on that refusal."
 abbrev pub afterCheck : {A : Type 0} → (Refusal → A) → Verdict → A → A
@@ -15,3 +17,9 @@ afterCheck refused (Refused r) a = refused r
 -- the bytes of record i's string
 unfoldable pub bytesOf : List ℕ → ℕ → List ℕ
 bytesOf t i = take (stringLength t (textAt i)) (drop (stringStart t (textAt i)) t)
+
+-- an accepted table with the records i and j
+pub record Present (t : List ℕ) (i j : ℕ) : Type 0 where
+  pub accepted : checkOf t ≡ Accepted
+  pub first : i < count t
+  pub second : j < count t
