@@ -2,3 +2,5 @@ pub mod Records
 pub mod Forms
 pub mod Names
 pub mod Versions
+pub mod WellFormed
+pub mod Exactly
