@@ -4,4 +4,5 @@ pub mod NameLaws
 pub mod VersionLaws
 pub mod FormRules
 pub mod Finds
-pub mod Rules
+pub mod NameRules
+pub mod VersionRules

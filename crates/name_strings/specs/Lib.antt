@@ -3,4 +3,5 @@ pub mod Forms
 pub mod Names
 pub mod Versions
 pub mod WellFormed
-pub mod Exactly
+pub mod ExactNames
+pub mod ExactVersions

@@ -28,7 +28,7 @@ use Rattle.name_strings.specs.declared.PostscriptAnswer.{PostscriptAnswe
 use Rattle.name_strings.specs.declared.PostscriptAnswer.the-variants.{Name, NoRecord, OneRecord, IllFormed, Different, Refused}
 use Rattle.name_strings.specs.Records.{bytesOf}
 use Rattle.name_strings.specs.Names.{eitherIll, unlike, fromStrings, postscriptOf, saidName}
-use Rattle.name_strings.specs.Exactly.{First, Second, None, WithBoth, Formed, Same, Named, Neither, ExactlyOne, NotFormed, Unlike, PostscriptRight}
+use Rattle.name_strings.specs.ExactNames.{First, Second, None, WithBoth, Formed, Same, Named, Neither, ExactlyOne, NotFormed, Unlike, PostscriptRight}
 use Rattle.name_strings.proofs.NameLaws.{name-refused, name-both, name-first, name-second, name-neither, strings-ill, strings-unlike, strings-alike}
 use Rattle.name_strings.proofs.FormRules.{both-formed, same-characters}
 use Rattle.name_strings.proofs.Finds.{find-has, find-at, find-none}
