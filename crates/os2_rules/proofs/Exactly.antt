@@ -12,7 +12,7 @@ use lib.Dec.{ltb}
 use lib.Pow.{pow-pos, mod-pow-add, shr-shr}
 use borrow.Author.Tests.{lt-ltb, le-ltb, lt-leb, eq-eqb, ltb-true, ltb-false, leb-false, eqb-true}
 use Rattle.os2_rules.specs.Bits.{bit, bits}
-use Rattle.os2_rules.specs.Rules.{Clear, WeightRule, WidthRule, TypeRule, RightsRule, SelectionRule, RegularRule, SizesRule, Rules, FirstBroken, broken-1, broken-2, broken-3, broken-4, broken-5, broken-6, broken-7}
+use Rattle.os2_rules.specs.Rules.{Clear, WeightRule, WidthRule, TypeRule, RightsRule, SelectionRule, RegularRule, SizesRule, Before2, Before3, Before4, Before5, Before6, Before7, Rules, FirstBroken, broken-1, broken-2, broken-3, broken-4, broken-5, broken-6, broken-7}
 use Rattle.os2_rules.specs.Tests.{anySet, weightBroken, widthBroken, typeBroken, rightsBroken, selectionBroken, regularBroken, sizesBroken, verdictOf}
 use Rattle.os2_rules.specs.declared.Values.{Values}
 use Rattle.os2_rules.specs.declared.Verdict.{Verdict}
@@ -229,35 +229,90 @@ pub broken-exactly : (v : Values) (k : ℕ) → (verdictOf v ≡ Broken k) ↔ F
 unfolding verdictOf
 broken-exactly v k = (there, back k)
   where
+    none-left : Kept ≡ Broken k → FirstBroken v k
+    none-left e = let z : _≡_ {A = ℕ} 0 1 = cc in absurd (omega arith)
+
+    from-7 : Before7 v → cond (sizesBroken (v .version) (v .lower) (v .upper)) (Broken 7) Kept ≡ Broken k → FirstBroken v k
+    from-7 h e =
+        ⊎-elim (λ d. rw (d .1) (broken-7 h (fails (sizesBroken (v .version) (v .lower) (v .upper)) (sizes-exactly (v .version) (v .lower) (v .upper)) (d .0)))) (λ d. none-left (d .1))
+        (broken-step (sizesBroken (v .version) (v .lower) (v .upper)) k 7 _ e)
+
+    from-6 : Before6 v → cond (regularBroken (v .fsselection)) (Broken 6) (cond (sizesBroken (v .version) (v .lower) (v .upper)) (Broken 7) Kept) ≡ Broken k → FirstBroken v k
+    from-6 h e =
+        ⊎-elim (λ d. rw (d .1) (broken-6 h (fails (regularBroken (v .fsselection)) (regular-exactly (v .fsselection)) (d .0)))) (λ d. from-7 (h, regular-exactly (v .fsselection) .0 (d .0)) (d .1))
+        (broken-step (regularBroken (v .fsselection)) k 6 _ e)
+
+    from-5 : Before5 v → cond (selectionBroken (v .version) (v .fsselection)) (Broken 5) (cond (regularBroken (v .fsselection)) (Broken 6) (cond (sizesBroken (v .version) (v .lower) (v .upper)) (Broken 7) Kept)) ≡ Broken k → FirstBroken v k
+    from-5 h e =
+        ⊎-elim (λ d. rw (d .1) (broken-5 h (fails (selectionBroken (v .version) (v .fsselection)) (selection-exactly (v .version) (v .fsselection)) (d .0)))) (λ d. from-6 (h, selection-exactly (v .version) (v .fsselection) .0 (d .0)) (d .1))
+        (broken-step (selectionBroken (v .version) (v .fsselection)) k 5 _ e)
+
+    from-4 : Before4 v → cond (rightsBroken (v .version) (v .fstype)) (Broken 4) (cond (selectionBroken (v .version) (v .fsselection)) (Broken 5) (cond (regularBroken (v .fsselection)) (Broken 6) (cond (sizesBroken (v .version) (v .lower) (v .upper)) (Broken 7) Kept))) ≡ Broken k → FirstBroken v k
+    from-4 h e =
+        ⊎-elim (λ d. rw (d .1) (broken-4 h (fails (rightsBroken (v .version) (v .fstype)) (rights-exactly (v .version) (v .fstype)) (d .0)))) (λ d. from-5 (h, rights-exactly (v .version) (v .fstype) .0 (d .0)) (d .1))
+        (broken-step (rightsBroken (v .version) (v .fstype)) k 4 _ e)
+
+    from-3 : Before3 v → cond (typeBroken (v .fstype)) (Broken 3) (cond (rightsBroken (v .version) (v .fstype)) (Broken 4) (cond (selectionBroken (v .version) (v .fsselection)) (Broken 5) (cond (regularBroken (v .fsselection)) (Broken 6) (cond (sizesBroken (v .version) (v .lower) (v .upper)) (Broken 7) Kept)))) ≡ Broken k → FirstBroken v k
+    from-3 h e =
+        ⊎-elim (λ d. rw (d .1) (broken-3 h (fails (typeBroken (v .fstype)) (type-exactly (v .fstype)) (d .0)))) (λ d. from-4 (h, type-exactly (v .fstype) .0 (d .0)) (d .1))
+        (broken-step (typeBroken (v .fstype)) k 3 _ e)
+
+    from-2 : Before2 v → cond (widthBroken (v .width)) (Broken 2) (cond (typeBroken (v .fstype)) (Broken 3) (cond (rightsBroken (v .version) (v .fstype)) (Broken 4) (cond (selectionBroken (v .version) (v .fsselection)) (Broken 5) (cond (regularBroken (v .fsselection)) (Broken 6) (cond (sizesBroken (v .version) (v .lower) (v .upper)) (Broken 7) Kept))))) ≡ Broken k → FirstBroken v k
+    from-2 h e =
+        ⊎-elim (λ d. rw (d .1) (broken-2 h (fails (widthBroken (v .width)) (width-exactly (v .width)) (d .0)))) (λ d. from-3 (h, width-exactly (v .width) .0 (d .0)) (d .1))
+        (broken-step (widthBroken (v .width)) k 2 _ e)
+
     there : verdictOf v ≡ Broken k → FirstBroken v k
-    there e0 =
-        ⊎-elim (λ e1. rw (e1 .1) (broken-1 (fails (weightBroken (v .weight)) (weight-exactly (v .weight)) (e1 .0))))
-        (λ e1.
-        ⊎-elim (λ e2. rw (e2 .1) (broken-2 (weight-exactly (v .weight) .0 (e1 .0)) (fails (widthBroken (v .width)) (width-exactly (v .width)) (e2 .0))))
-        (λ e2.
-        ⊎-elim (λ e3. rw (e3 .1) (broken-3 (weight-exactly (v .weight) .0 (e1 .0)) (width-exactly (v .width) .0 (e2 .0)) (fails (typeBroken (v .fstype)) (type-exactly (v .fstype)) (e3 .0))))
-        (λ e3.
-        ⊎-elim (λ e4. rw (e4 .1) (broken-4 (weight-exactly (v .weight) .0 (e1 .0)) (width-exactly (v .width) .0 (e2 .0)) (type-exactly (v .fstype) .0 (e3 .0)) (fails (rightsBroken (v .version) (v .fstype)) (rights-exactly (v .version) (v .fstype)) (e4 .0))))
-        (λ e4.
-        ⊎-elim (λ e5. rw (e5 .1) (broken-5 (weight-exactly (v .weight) .0 (e1 .0)) (width-exactly (v .width) .0 (e2 .0)) (type-exactly (v .fstype) .0 (e3 .0)) (rights-exactly (v .version) (v .fstype) .0 (e4 .0)) (fails (selectionBroken (v .version) (v .fsselection)) (selection-exactly (v .version) (v .fsselection)) (e5 .0))))
-        (λ e5.
-        ⊎-elim (λ e6. rw (e6 .1) (broken-6 (weight-exactly (v .weight) .0 (e1 .0)) (width-exactly (v .width) .0 (e2 .0)) (type-exactly (v .fstype) .0 (e3 .0)) (rights-exactly (v .version) (v .fstype) .0 (e4 .0)) (selection-exactly (v .version) (v .fsselection) .0 (e5 .0)) (fails (regularBroken (v .fsselection)) (regular-exactly (v .fsselection)) (e6 .0))))
-        (λ e6.
-        ⊎-elim (λ e7. rw (e7 .1) (broken-7 (weight-exactly (v .weight) .0 (e1 .0)) (width-exactly (v .width) .0 (e2 .0)) (type-exactly (v .fstype) .0 (e3 .0)) (rights-exactly (v .version) (v .fstype) .0 (e4 .0)) (selection-exactly (v .version) (v .fsselection) .0 (e5 .0)) (regular-exactly (v .fsselection) .0 (e6 .0)) (fails (sizesBroken (v .version) (v .lower) (v .upper)) (sizes-exactly (v .version) (v .lower) (v .upper)) (e7 .0))))
-        (λ e7. let z : _≡_ {A = ℕ} 0 1 = cc in absurd (omega arith))
-        (broken-step (sizesBroken (v .version) (v .lower) (v .upper)) k 7 _ (e6 .1)))
-        (broken-step (regularBroken (v .fsselection)) k 6 _ (e5 .1)))
-        (broken-step (selectionBroken (v .version) (v .fsselection)) k 5 _ (e4 .1)))
-        (broken-step (rightsBroken (v .version) (v .fstype)) k 4 _ (e3 .1)))
-        (broken-step (typeBroken (v .fstype)) k 3 _ (e2 .1)))
-        (broken-step (widthBroken (v .width)) k 2 _ (e1 .1)))
-        (broken-step (weightBroken (v .weight)) k 1 _ e0)
+    there e =
+        ⊎-elim (λ d. rw (d .1) (broken-1 (fails (weightBroken (v .weight)) (weight-exactly (v .weight)) (d .0)))) (λ d. from-2 (weight-exactly (v .weight) .0 (d .0)) (d .1))
+        (broken-step (weightBroken (v .weight)) k 1 _ e)
 
     back : (j : ℕ) → FirstBroken v j → verdictOf v ≡ Broken j
-    back j (broken-1 n) = simp (found (weightBroken (v .weight)) (weight-exactly (v .weight)) n)
-    back j (broken-2 h1 n) = simp (weight-exactly (v .weight) .1 h1, found (widthBroken (v .width)) (width-exactly (v .width)) n)
-    back j (broken-3 h1 h2 n) = simp (weight-exactly (v .weight) .1 h1, width-exactly (v .width) .1 h2, found (typeBroken (v .fstype)) (type-exactly (v .fstype)) n)
-    back j (broken-4 h1 h2 h3 n) = simp (weight-exactly (v .weight) .1 h1, width-exactly (v .width) .1 h2, type-exactly (v .fstype) .1 h3, found (rightsBroken (v .version) (v .fstype)) (rights-exactly (v .version) (v .fstype)) n)
-    back j (broken-5 h1 h2 h3 h4 n) = simp (weight-exactly (v .weight) .1 h1, width-exactly (v .width) .1 h2, type-exactly (v .fstype) .1 h3, rights-exactly (v .version) (v .fstype) .1 h4, found (selectionBroken (v .version) (v .fsselection)) (selection-exactly (v .version) (v .fsselection)) n)
-    back j (broken-6 h1 h2 h3 h4 h5 n) = simp (weight-exactly (v .weight) .1 h1, width-exactly (v .width) .1 h2, type-exactly (v .fstype) .1 h3, rights-exactly (v .version) (v .fstype) .1 h4, selection-exactly (v .version) (v .fsselection) .1 h5, found (regularBroken (v .fsselection)) (regular-exactly (v .fsselection)) n)
-    back j (broken-7 h1 h2 h3 h4 h5 h6 n) = simp (weight-exactly (v .weight) .1 h1, width-exactly (v .width) .1 h2, type-exactly (v .fstype) .1 h3, rights-exactly (v .version) (v .fstype) .1 h4, selection-exactly (v .version) (v .fsselection) .1 h5, regular-exactly (v .fsselection) .1 h6, found (sizesBroken (v .version) (v .lower) (v .upper)) (sizes-exactly (v .version) (v .lower) (v .upper)) n)
+    back j (broken-1 n) =
+        simp
+        (found (weightBroken (v .weight)) (weight-exactly (v .weight)) n)
+    back j (broken-2 h n) =
+        simp (
+          weight-exactly (v .weight) .1 (h),
+          found (widthBroken (v .width)) (width-exactly (v .width)) n,
+        )
+    back j (broken-3 h n) =
+        simp (
+          weight-exactly (v .weight) .1 (h .0),
+          width-exactly (v .width) .1 (h .1),
+          found (typeBroken (v .fstype)) (type-exactly (v .fstype)) n,
+        )
+    back j (broken-4 h n) =
+        simp (
+          weight-exactly (v .weight) .1 (h .0 .0),
+          width-exactly (v .width) .1 (h .0 .1),
+          type-exactly (v .fstype) .1 (h .1),
+          found (rightsBroken (v .version) (v .fstype)) (rights-exactly (v .version) (v .fstype)) n,
+        )
+    back j (broken-5 h n) =
+        simp (
+          weight-exactly (v .weight) .1 (h .0 .0 .0),
+          width-exactly (v .width) .1 (h .0 .0 .1),
+          type-exactly (v .fstype) .1 (h .0 .1),
+          rights-exactly (v .version) (v .fstype) .1 (h .1),
+          found (selectionBroken (v .version) (v .fsselection)) (selection-exactly (v .version) (v .fsselection)) n,
+        )
+    back j (broken-6 h n) =
+        simp (
+          weight-exactly (v .weight) .1 (h .0 .0 .0 .0),
+          width-exactly (v .width) .1 (h .0 .0 .0 .1),
+          type-exactly (v .fstype) .1 (h .0 .0 .1),
+          rights-exactly (v .version) (v .fstype) .1 (h .0 .1),
+          selection-exactly (v .version) (v .fsselection) .1 (h .1),
+          found (regularBroken (v .fsselection)) (regular-exactly (v .fsselection)) n,
+        )
+    back j (broken-7 h n) =
+        simp (
+          weight-exactly (v .weight) .1 (h .0 .0 .0 .0 .0),
+          width-exactly (v .width) .1 (h .0 .0 .0 .0 .1),
+          type-exactly (v .fstype) .1 (h .0 .0 .0 .1),
+          rights-exactly (v .version) (v .fstype) .1 (h .0 .0 .1),
+          selection-exactly (v .version) (v .fsselection) .1 (h .0 .1),
+          regular-exactly (v .fsselection) .1 (h .1),
+          found (sizesBroken (v .version) (v .lower) (v .upper)) (sizes-exactly (v .version) (v .lower) (v .upper)) n,
+        )

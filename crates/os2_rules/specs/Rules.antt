@@ -46,12 +46,31 @@ pub record Rules (v : Values) : Type 0 where
   pub rule-6 : RegularRule (v .fsselection)
   pub rule-7 : SizesRule (v .version) (v .lower) (v .upper)
 
+-- every rule before the second holds, before the third, and so on
+abbrev pub Before2 : Values → Type 0
+Before2 v = WeightRule (v .weight)
+
+abbrev pub Before3 : Values → Type 0
+Before3 v = Before2 v × WidthRule (v .width)
+
+abbrev pub Before4 : Values → Type 0
+Before4 v = Before3 v × TypeRule (v .fstype)
+
+abbrev pub Before5 : Values → Type 0
+Before5 v = Before4 v × RightsRule (v .version) (v .fstype)
+
+abbrev pub Before6 : Values → Type 0
+Before6 v = Before5 v × SelectionRule (v .version) (v .fsselection)
+
+abbrev pub Before7 : Values → Type 0
+Before7 v = Before6 v × RegularRule (v .fsselection)
+
 -- "first rule broken, 1 to 7"
 pub data FirstBroken (v : Values) : ℕ → Type 0 where
   broken-1 : (WeightRule (v .weight) → ⊥) → FirstBroken v 1
-  broken-2 : WeightRule (v .weight) → (WidthRule (v .width) → ⊥) → FirstBroken v 2
-  broken-3 : WeightRule (v .weight) → WidthRule (v .width) → (TypeRule (v .fstype) → ⊥) → FirstBroken v 3
-  broken-4 : WeightRule (v .weight) → WidthRule (v .width) → TypeRule (v .fstype) → (RightsRule (v .version) (v .fstype) → ⊥) → FirstBroken v 4
-  broken-5 : WeightRule (v .weight) → WidthRule (v .width) → TypeRule (v .fstype) → RightsRule (v .version) (v .fstype) → (SelectionRule (v .version) (v .fsselection) → ⊥) → FirstBroken v 5
-  broken-6 : WeightRule (v .weight) → WidthRule (v .width) → TypeRule (v .fstype) → RightsRule (v .version) (v .fstype) → SelectionRule (v .version) (v .fsselection) → (RegularRule (v .fsselection) → ⊥) → FirstBroken v 6
-  broken-7 : WeightRule (v .weight) → WidthRule (v .width) → TypeRule (v .fstype) → RightsRule (v .version) (v .fstype) → SelectionRule (v .version) (v .fsselection) → RegularRule (v .fsselection) → (SizesRule (v .version) (v .lower) (v .upper) → ⊥) → FirstBroken v 7
+  broken-2 : Before2 v → (WidthRule (v .width) → ⊥) → FirstBroken v 2
+  broken-3 : Before3 v → (TypeRule (v .fstype) → ⊥) → FirstBroken v 3
+  broken-4 : Before4 v → (RightsRule (v .version) (v .fstype) → ⊥) → FirstBroken v 4
+  broken-5 : Before5 v → (SelectionRule (v .version) (v .fsselection) → ⊥) → FirstBroken v 5
+  broken-6 : Before6 v → (RegularRule (v .fsselection) → ⊥) → FirstBroken v 6
+  broken-7 : Before7 v → (SizesRule (v .version) (v .lower) (v .upper) → ⊥) → FirstBroken v 7
