@@ -4,6 +4,8 @@ use mathlib.Core.Option.{Option, none, some}
 use Rattle.os2_style.specs.Style.{rightsNumber, saidSizes}
 use Rattle.os2.specs.declared.Refusal.{Refusal}
 use Rattle.os2.specs.declared.Refusal.the-variants.{LevelAbove, TooShort, RuleBroken, NoField, NoBit}
+use Rattle.os2.specs.declared.Carried.{Carried}
+use Rattle.os2.specs.declared.Carried.the-variants.{Nothing, Rule}
 use Rattle.os2.specs.declared.Checked.{Checked}
 use Rattle.os2.specs.declared.Checked.the-variants as Checked·
 use Rattle.os2.specs.declared.Answer.{Answer}
@@ -43,6 +45,10 @@ refusalCarries TooShort = none
 refusalCarries (RuleBroken k) = some k
 refusalCarries NoField = none
 refusalCarries NoBit = none
+
+abbrev pub saidCarried : Carried → Option ℕ
+saidCarried Nothing = none
+saidCarried (Rule k) = some k
 
 abbrev pub saidRefusal : {A : Type 0} → Refusal → Outcome A
 saidRefusal r = refused (refusalNumber r) (refusalCarries r)

@@ -17,7 +17,7 @@ ghost use Rattle.os2.specs.Acceptance.{judged, checked};
 ghost use Rattle.os2.specs.Asking.{above, ask, given, bySince, opened};
 ghost use Rattle.os2.specs.Questions.{since, outOfRange, ownRefusal};
 ghost use Rattle.os2.specs.Reading.{BitAsked};
-ghost use Rattle.os2.specs.Replies.{refusalNumber, refusalCarries, saidCheck, saidAnswer, saidReply, saidRightsAnswer, saidRightsReply, saidStyleAnswer, saidStyleReply, saidOpticalAnswer, saidOpticalReply, saidAnyReply, kindOf};
+ghost use Rattle.os2.specs.Replies.{refusalNumber, refusalCarries, saidCarried, saidCheck, saidAnswer, saidReply, saidRightsAnswer, saidRightsReply, saidStyleAnswer, saidStyleReply, saidOpticalAnswer, saidOpticalReply, saidAnyReply, kindOf};
 use level::Level;
 use level::LevelAnswer;
 use os2_fields::CODE_PAGES;
@@ -61,6 +61,26 @@ impl Refusal {
             Refusal::NoBit => 7,
         }
     }
+
+    // What it carries.
+    pub fn carries(self) -> Carried
+        ensures { λ r. ⌜ saidCarried r ≡ refusalCarries self ⌝ }
+    {
+        match self {
+            Refusal::LevelAbove => Carried::Nothing,
+            Refusal::TooShort => Carried::Nothing,
+            Refusal::RuleBroken(rule) => Carried::Rule(rule),
+            Refusal::NoField => Carried::Nothing,
+            Refusal::NoBit => Carried::Nothing,
+        }
+    }
+}
+
+// What a refusal carries beside its number.
+pub enum Carried {
+    Nothing,
+    // The first value rule broken, 1 to 7.
+    Rule(u32),
 }
 
 // What a level says of a table.

@@ -16,6 +16,20 @@ pub enum EmbeddingRights {
     Editable,
 }
 
+impl EmbeddingRights {
+    // The bit of fsType, 0 where none is set.
+    pub fn number(self) -> u32
+        ensures { λ r. ⌜ r ≡ rightsNumber self ⌝ }
+    {
+        match self {
+            EmbeddingRights::Installable => 0,
+            EmbeddingRights::Restricted => 1,
+            EmbeddingRights::Preview => 2,
+            EmbeddingRights::Editable => 3,
+        }
+    }
+}
+
 // Document 01's style position: the weight class, and the width class in percent.
 pub struct StylePosition {
     pub weight: f32,
