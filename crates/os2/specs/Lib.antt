@@ -7,3 +7,4 @@ pub mod Reading
 pub mod Settled
 pub mod Demands
 pub mod Examples
+pub mod Writing
