@@ -6,3 +6,6 @@ pub mod Agreeing
 pub mod Trimming
 pub mod Starred
 pub mod Saying
+pub mod Codes
+pub mod Images
+pub mod RoundTrips

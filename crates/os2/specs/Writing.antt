@@ -102,24 +102,40 @@ whereWritten (answered size) table room = table
 unfoldable pub roomAfter : List ℤ → List ℕ → List ℕ
 roomAfter xs room = whereWritten (write xs (length room)) (image (codeFor xs 0) xs room 48) room
 
+-- "It writes exactly the version's size, answers that size and touches no later byte"; after a refusal "Memory lent for writing then holds what it
+-- held"
+abbrev pub TouchesOnly : (List ℤ → ℕ → Outcome ℕ) → (List ℤ → List ℕ → List ℕ) → Type 0
+TouchesOnly result room =
+    (xs : List ℤ) (r : List ℕ) →
+    ((n : ℕ) (c : Option ℕ) → result xs (length r) ≡ refused n c → room xs r ≡ r) ×
+    ((n : ℕ) → result xs (length r) ≡ answered n →
+    (v : ℕ) → numberFor xs 0 ≡ pos v → (n ≡ tableSize v) × (drop (tableSize v) (room xs r) ≡ drop (tableSize v) r))
+
 -- ---- demand 2's last two sentences
 
 -- field k is one of version v's
 abbrev pub InVersion : ℕ → ℕ → Type 0
 InVersion v k = (k < 48) × (fieldOf k .since ≤ v)
 
+-- a reader at level 5 gives the numbers xs for the fields that version v has, whatever stands in xs for the others
+abbrev pub Gives : (ℕ → List ℕ → Question → Outcome Said) → ℕ → List ℕ → List ℤ → Type 0
+Gives read v b xs = (k : ℕ) → InVersion v k → read 5 b (Question·.Field k) ≡ answered (value (integer (numberFor xs k)))
+
 -- "An OS/2 table we write, read at level 5, gives back each value of its version's fields", whatever follows it
 abbrev pub ReadsBack : (ℕ → List ℕ → Question → Outcome Said) → (List ℤ → ℕ → Outcome ℕ) → (List ℤ → List ℕ → List ℕ) → Type 0
 ReadsBack read result room =
     (xs : List ℤ) (r : List ℕ) (v n : ℕ) → numberFor xs 0 ≡ pos v → result xs (length r) ≡ answered n → (rest : List ℕ) →
-    Accepted 5 (take n (room xs r) ++ rest) ×
-    ((k : ℕ) → InVersion v k → read 5 (take n (room xs r) ++ rest) (Question·.Field k) ≡ answered (value (integer (numberFor xs k))))
+    Accepted 5 (take n (room xs r) ++ rest) × Gives read v (take n (room xs r) ++ rest) xs
 
--- "One of version 0 to 5 that level 5 accepts, rewritten, is the same bytes up to its version's size."
+-- the first bytes of the room, up to version v's size, are those of b, and the others are what they were in r
+abbrev pub Holds : ℕ → List ℕ → List ℕ → List ℕ → Type 0
+Holds v b r room = (take (tableSize v) room ≡ take (tableSize v) b) × (drop (tableSize v) room ≡ drop (tableSize v) r)
+
+-- "One of version 0 to 5 that level 5 accepts, rewritten, is the same bytes up to its version's size": the reader gives numbers for the version's
+-- fields, and any such numbers are written as these bytes into any room that is long enough
 abbrev pub Rewrites : (ℕ → List ℕ → Question → Outcome Said) → (List ℤ → ℕ → Outcome ℕ) → (List ℤ → List ℕ → List ℕ) → Type 0
 Rewrites read result room =
     (b : List ℕ) → Bytes b → version b ≤ 5 → Accepted 5 b →
-    (xs : List ℤ) → ((k : ℕ) → InVersion (version b) k → read 5 b (Question·.Field k) ≡ answered (value (integer (numberFor xs k)))) →
-    (r : List ℕ) → tableSize (version b) ≤ length r →
-    (result xs (length r) ≡ answered (tableSize (version b))) ×
-    ((take (tableSize (version b)) (room xs r) ≡ take (tableSize (version b)) b) × (drop (tableSize (version b)) (room xs r) ≡ drop (tableSize (version b)) r))
+    ((xs : List ℤ) × Gives read (version b) b xs) ×
+    ((xs : List ℤ) → Gives read (version b) b xs → (r : List ℕ) → tableSize (version b) ≤ length r →
+    (result xs (length r) ≡ answered (tableSize (version b))) × Holds (version b) b r (room xs r))

@@ -129,6 +129,19 @@ pub adjoin : (k : ℕ) → k < 47 → fieldOf (suc k) .offset ≡ fieldOf k .off
 unfolding start
 adjoin k h = fields (suc k) (omega arith) .starts ∙ ap (λ (n : ℕ). n + fieldOf k .width) (sym (fields k (omega arith) .starts))
 
+-- a field starts where those before it end
+pub offset-is : (k : ℕ) → k < 48 → fieldOf k .offset ≡ start k
+offset-is k h = fields k h .starts
+
+-- an earlier field ends before a later one starts
+pub before : (j k : ℕ) → j < k → k < 48 → fieldOf j .offset + fieldOf j .width ≤ fieldOf k .offset
+before j zero h l = absurd (omega arith)
+before j (suc k) h l = at (ℕ-discrete j k) (λ m. before j k m (omega arith))
+  where
+    at : Dec (j ≡ k) → (j < k → fieldOf j .offset + fieldOf j .width ≤ fieldOf k .offset) → fieldOf j .offset + fieldOf j .width ≤ fieldOf (suc k) .offset
+    at (yes e) r = rw e (omega (arith, adjoin k (omega arith)))
+    at (no e) r = omega (arith, adjoin k (omega arith), r (omega arith))
+
 pub first : fieldOf 0 .offset ≡ 0
 unfolding fieldOf catalogue
 first = refl
@@ -148,6 +161,10 @@ outside k v h s = fields k h .outside v s
 -- the last field that a version has ends where the version's size does
 pub fills : (k v : ℕ) → k < 47 → fieldOf k .since ≤ v → v < fieldOf (suc k) .since → fieldOf k .offset + fieldOf k .width ≡ tableSize v
 fills k v h s l = omega (arith, inside k v (omega arith) s, outside (suc k) v (omega arith) l, adjoin k h)
+
+-- a signed field has two bytes
+pub sign-width : (k : ℕ) → k < 48 → fieldOf k .signed ≡ true → fieldOf k .width ≡ 2
+sign-width k h = fields k h .sign
 
 -- a later field came in no earlier
 pub since-rises : (j k : ℕ) → j ≤ k → k < 48 → fieldOf j .since ≤ fieldOf k .since
