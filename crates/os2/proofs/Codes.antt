@@ -2,7 +2,7 @@
 -- the upper half of the numbers of two bytes stands for the negative ones.
 -- Assumes nothing.
 use Prim.Native.Nat.{ℕ, suc, _-_, _/_, _^_, _<_, _≤_}
-use mathlib.Core.Path.{_≡_, refl, sym, ap, _∙_}
+use mathlib.Core.Path.{_≡_, refl, ap}
 use mathlib.Core.Bool.{Bool, true, false, cond, _&&_, false≢true}
 use mathlib.Core.List.{List}
 use native.Mathlib.Omega.{arith}

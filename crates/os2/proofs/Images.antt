@@ -1,10 +1,9 @@
 -- What stands in the room once the fields are stored, by induction on the fields: a field ends where the next one starts, so a later store leaves it
 -- alone, and the fields that a version has lie within its size.
 -- Assumes nothing.
-use Prim.Native.Nat.{ℕ, zero, suc, _+_, _*_, _/_, _%_, _^_, _<_, _≤_}
+use Prim.Native.Nat.{ℕ, zero, suc, _+_, _^_, _<_, _≤_}
 use mathlib.Core.Path.{_≡_, refl, sym, ap, _∙_}
 use mathlib.Core.Logic.{inl, inr}
-use mathlib.Core.Bool.{Bool, true, false}
 use mathlib.Core.List.{List, _++_}
 use native.Mathlib.Nat.{le-trans}
 use native.Mathlib.Decide.{decLt, ℕ-discrete}
@@ -126,8 +125,8 @@ module _ (v : ℕ) (xs : List ℤ) (room : List ℕ) where
       pub image-holds : v ≤ 5 → tableSize v ≤ length b → Holds v b room (image v xs room 48)
       image-holds h l = (
         ext-getD 0 (take (tableSize v) (image v xs room 48)) (take (tableSize v) b)
-          (length-take-le (tableSize v) (image v xs room 48) (rw (image-length 48) long) ∙ sym (length-take-le (tableSize v) b l))
-          (λ i g. byte i (rw (length-take-le (tableSize v) (image v xs room 48) (rw (image-length 48) long)) at g)),
+            (length-take-le (tableSize v) (image v xs room 48) (rw (image-length 48) long) ∙ sym (length-take-le (tableSize v) b l))
+            (λ i g. byte i (rw (length-take-le (tableSize v) (image v xs room 48) (rw (image-length 48) long)) at g)),
         image-rest,
       )
         where

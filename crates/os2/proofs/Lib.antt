@@ -9,3 +9,4 @@ pub mod Saying
 pub mod Codes
 pub mod Images
 pub mod RoundTrips
+pub mod Refuting

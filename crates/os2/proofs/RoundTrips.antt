@@ -1,19 +1,19 @@
 -- Demand 2's last two sentences, of our reader and writer: what is written holds each number's bytes at its field (Images), and a field's bytes and its
 -- whole number give each other (Codes). The rules look at the same values on both ways.
 -- Assumes nothing.
-use Prim.Native.Nat.{ℕ, zero, suc, min, _+_, _^_, _<_, _≤_, zero-le}
+use Prim.Native.Nat.{ℕ, zero, suc, _+_, _<_, _≤_, zero-le}
 use mathlib.Core.Path.{_≡_, refl, sym, ap, _∙_}
-use mathlib.Core.Bool.{Bool, true, false, cond, not, _&&_, false≢true}
+use mathlib.Core.Bool.{Bool, true, false, cond, not, _&&_}
 use mathlib.Core.Option.{Option, none, some}
 use mathlib.Core.List.{List, _++_, map}
-use native.Mathlib.Nat.{le-refl, le-trans, min-eq-left}
-use native.Mathlib.Decide.{decLt, ℕ-discrete}
+use native.Mathlib.Nat.{le-trans, min-eq-left}
+use native.Mathlib.Decide.{ℕ-discrete}
 use native.Mathlib.Omega.{arith}
 use lib.Dec.{ltb, leb}
 use lib.ListN.{length, take, drop, length-append, List·getD-map}
 use lib.Seq.{length-take-le}
-use lib.IntN.{ℤ, pos, negsuc}
-use borrow.Author.Tests.{le-ltb, le-leb, lt-leb, leb-true, ltb-false, not-false}
+use lib.IntN.{ℤ, pos}
+use borrow.Author.Tests.{le-ltb, le-leb, leb-true, ltb-false}
 use Rattle.level.specs.Sizes.{tableSize}
 use Rattle.level.proofs.Laws.{size-least}
 use Rattle.bigendian.specs.Numbers.{number, Bytes}
@@ -26,14 +26,14 @@ use Rattle.os2_fields.specs.Fields.{rawIn, valueIn, raw, version, valuesOf}
 use Rattle.os2_fields.proofs.Laws.{value-plain}
 use Rattle.os2_fields.proofs.Tiling.{sign-width}
 use Rattle.os2.specs.declared.Question.the-variants.{Field}
-use Rattle.os2.specs.Outcomes.{integer, value, Outcome, refused, answered, unless, unlessBroken}
+use Rattle.os2.specs.Outcomes.{integer, value, refused, answered, unless, unlessBroken}
 use Rattle.os2.specs.Questions.{outOfRange, since, onWhole}
 use Rattle.os2.specs.Asking.{valueOf, ask}
 use Rattle.os2.specs.Settled.{Accepted}
-use Rattle.os2.specs.Writing.{numberFor, fits, codeOf, codeFor, isVersion, misfit, orElse, lowestMisfit, unlessMisfit, valuesFor, write, image, whereWritten, roomAfter, TouchesOnly, InVersion, Gives, ReadsBack, Holds, Rewrites}
+use Rattle.os2.specs.Writing.{numberFor, fits, codeOf, codeFor, isVersion, misfit, orElse, lowestMisfit, unlessMisfit, valuesFor, write, image, roomAfter, TouchesOnly, InVersion, Gives, ReadsBack, Holds, Rewrites}
 use Rattle.os2.proofs.Laws.{le-above}
 use Rattle.os2.proofs.Settling.{laterTest, tells, ask-accepted}
-use Rattle.os2.proofs.Codes.{code-small, code-plain, value-coded, code-read, fits-read}
+use Rattle.os2.proofs.Codes.{code-small, value-coded, code-read, fits-read}
 use Rattle.os2.proofs.Images.{image-length, image-rest, front-raw, image-holds}
 
 -- ---- a field of an accepted table, read at level 5

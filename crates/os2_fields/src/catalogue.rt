@@ -2,7 +2,7 @@
 // Document 01, "The 'OS/2' fields", the table of fields.
 ghost use mathlib.Core.Path.{_≡_};
 ghost use Prim.Native.Nat.{_<_};
-ghost use Rattle.os2_fields.specs.Catalogue.{fieldOf};
+ghost use Rattle.os2_fields.specs.Catalogue.{catalogue, fieldOf};
 
 // A field: where it stands, its width in bytes, whether it is signed, and the version that it came in with.
 pub struct Field {
@@ -37,6 +37,13 @@ pub fn entry(k: usize) -> Field
     ensures { λ r. ⌜ r ≡ fieldOf k ⌝ }
 {
     FIELDS[k]
+}
+
+// The whole catalogue, for a loop over the fields.
+pub fn entries() -> [Field; 48]
+    ensures { λ r. ⌜ r ≡ catalogue ⌝ }
+{
+    FIELDS
 }
 
 const FIELDS: [Field; 48] = [

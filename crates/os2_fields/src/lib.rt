@@ -22,6 +22,7 @@ pub use catalogue::UPPER_SIZE;
 pub use catalogue::VERSION;
 pub use catalogue::WEIGHT;
 pub use catalogue::WIDTH;
+pub use catalogue::entries;
 pub use catalogue::entry;
 use os2_rules::Values;
 
