@@ -20,7 +20,7 @@ use Rattle.os2.specs.declared.Question.{Question}
 use Rattle.os2.specs.Outcomes.{Said, Outcome, answered}
 use Rattle.os2.specs.Acceptance.{underTwo, underSize, short, ruling, judged}
 use Rattle.os2.specs.Settled.{Accepted}
-use Rattle.os2.specs.Writing.{fits, codeOf, isVersion, misfit, lowestMisfit, valuesFor, write, roomAfter, Gives, ReadsBack, Rewrites}
+use Rattle.os2.specs.Writing.{fits, codeOf, noVersion, misfit, lowestMisfit, valuesFor, write, roomAfter, Gives, ReadsBack, Rewrites}
 use Rattle.os2.proofs.Accepting.{judged-exactly}
 
 -- ---- a writer that writes nothing
@@ -30,7 +30,7 @@ numbers : List ℤ
 numbers = pos 0 ∷ pos 0 ∷ pos 400 ∷ pos 5 ∷ replicate 44 (pos 0)
 
 numbers-written : write numbers 78 ≡ answered 78
-unfolding numbers write isVersion fits codeOf misfit lowestMisfit valuesFor verdictOf weightBroken widthBroken typeBroken rightsBroken selectionBroken regularBroken sizesBroken bit bits fieldOf catalogue tableSize
+unfolding numbers write noVersion fits codeOf misfit lowestMisfit valuesFor verdictOf weightBroken widthBroken typeBroken rightsBroken selectionBroken regularBroken sizesBroken bit bits fieldOf catalogue tableSize
 numbers-written = refl
 
 zeros-refused : Accepted 5 (replicate 78 0) → ⊥

@@ -30,7 +30,7 @@ use Rattle.os2.specs.Outcomes.{integer, value, refused, answered, unless
 use Rattle.os2.specs.Questions.{outOfRange, since, onWhole}
 use Rattle.os2.specs.Asking.{valueOf, ask}
 use Rattle.os2.specs.Settled.{Accepted}
-use Rattle.os2.specs.Writing.{numberFor, fits, codeOf, codeFor, isVersion, misfit, orElse, lowestMisfit, unlessMisfit, valuesFor, write, image, roomAfter, TouchesOnly, InVersion, Gives, ReadsBack, Holds, Rewrites}
+use Rattle.os2.specs.Writing.{numberFor, fits, codeOf, codeFor, noVersion, misfit, orElse, lowestMisfit, unlessMisfit, valuesFor, write, image, roomAfter, TouchesOnly, InVersion, Gives, ReadsBack, Holds, Rewrites}
 use Rattle.os2.proofs.Laws.{le-above}
 use Rattle.os2.proofs.Settling.{laterTest, tells, ask-accepted}
 use Rattle.os2.proofs.Codes.{code-small, value-coded, code-read, fits-read}
@@ -77,7 +77,7 @@ module _ (v : ℕ) (xs : List ℤ) (b : List ℕ) (same : (k : ℕ) → InVersio
 
 -- ---- what an answer of the writer says
 
-no-misfit : (v : ℕ) (xs : List ℤ) (n : ℕ) → lowestMisfit v xs n ≡ none → (k : ℕ) → k < n → fieldOf k .since ≤ v → fits (fieldOf k) (numberFor xs k) ≡ true
+pub no-misfit : (v : ℕ) (xs : List ℤ) (n : ℕ) → lowestMisfit v xs n ≡ none → (k : ℕ) → k < n → fieldOf k .since ≤ v → fits (fieldOf k) (numberFor xs k) ≡ true
 unfolding lowestMisfit misfit
 no-misfit v xs zero e k h s = absurd (omega arith)
 no-misfit v xs (suc n) e k h s = at (lowestMisfit v xs n) refl e (ℕ-discrete k n) (λ d m. no-misfit v xs n d k m s)
@@ -103,28 +103,29 @@ misfit-none v xs (suc n) h = rw (misfit-none v xs n (λ k l. h k (omega arith)))
     at true e = rw (h n (omega arith) (leb-true (fieldOf n .since) v e))
     at false e = refl
 
-record Success (xs : List ℤ) (r n : ℕ) : Type 0 where
-  versioned : isVersion (numberFor xs 0) ≡ true
-  long : tableSize (codeFor xs 0) ≤ r
-  fitting : lowestMisfit (codeFor xs 0) xs 48 ≡ none
-  ruled : verdictOf (valuesFor (codeFor xs 0) xs) ≡ Kept
-  size : n ≡ tableSize (codeFor xs 0)
+-- what holds where a size is answered
+pub record Success (xs : List ℤ) (r n : ℕ) : Type 0 where
+  pub versioned : noVersion (numberFor xs 0) ≡ false
+  pub long : tableSize (codeFor xs 0) ≤ r
+  pub fitting : lowestMisfit (codeFor xs 0) xs 48 ≡ none
+  pub ruled : verdictOf (valuesFor (codeFor xs 0) xs) ≡ Kept
+  pub size : n ≡ tableSize (codeFor xs 0)
 
-success : (xs : List ℤ) (r n : ℕ) → write xs r ≡ answered n → Success xs r n
+pub success : (xs : List ℤ) (r n : ℕ) → write xs r ≡ answered n → Success xs r n
 unfolding write
-success xs r n = at (isVersion (numberFor xs 0)) refl (ltb r (tableSize (codeFor xs 0))) refl (lowestMisfit (codeFor xs 0) xs 48) refl (verdictOf (valuesFor (codeFor xs 0) xs)) refl
+success xs r n = at (noVersion (numberFor xs 0)) refl (ltb r (tableSize (codeFor xs 0))) refl (lowestMisfit (codeFor xs 0) xs 48) refl (verdictOf (valuesFor (codeFor xs 0) xs)) refl
   where
-    at : (s : Bool) → isVersion (numberFor xs 0) ≡ s → (t : Bool) → ltb r (tableSize (codeFor xs 0)) ≡ t → (o : Option ℕ) → lowestMisfit (codeFor xs 0) xs 48 ≡ o →
+    at : (s : Bool) → noVersion (numberFor xs 0) ≡ s → (t : Bool) → ltb r (tableSize (codeFor xs 0)) ≡ t → (o : Option ℕ) → lowestMisfit (codeFor xs 0) xs 48 ≡ o →
         (w : Verdict) → verdictOf (valuesFor (codeFor xs 0) xs) ≡ w →
-        unless (not s) 4 (unless t 5 (unlessMisfit o (unlessBroken w (answered (tableSize (codeFor xs 0)))))) ≡ answered n → Success xs r n
-    at false p t q o u w x e = let z : _≡_ {A = ℕ} 0 1 = cc in absurd (omega arith)
-    at true p true q o u w x e = let z : _≡_ {A = ℕ} 0 1 = cc in absurd (omega arith)
-    at true p false q (some k) u w x e = let z : _≡_ {A = ℕ} 0 1 = cc in absurd (omega arith)
-    at true p false q none u (Broken k) x e = let z : _≡_ {A = ℕ} 0 1 = cc in absurd (omega arith)
-    at true p false q none u Kept x e = record { versioned = p; long = ltb-false r (tableSize (codeFor xs 0)) q; fitting = u; ruled = x; size = cc }
+        unless s 4 (unless t 5 (unlessMisfit o (unlessBroken w (answered (tableSize (codeFor xs 0)))))) ≡ answered n → Success xs r n
+    at true p t q o u w x e = let z : _≡_ {A = ℕ} 0 1 = cc in absurd (omega arith)
+    at false p true q o u w x e = let z : _≡_ {A = ℕ} 0 1 = cc in absurd (omega arith)
+    at false p false q (some k) u w x e = let z : _≡_ {A = ℕ} 0 1 = cc in absurd (omega arith)
+    at false p false q none u (Broken k) x e = let z : _≡_ {A = ℕ} 0 1 = cc in absurd (omega arith)
+    at false p false q none u Kept x e = record { versioned = p; long = ltb-false r (tableSize (codeFor xs 0)) q; fitting = u; ruled = x; size = cc }
 
 -- the room holds the fields where the writer answers a size, and is what it was where it refuses
-room-written : (xs : List ℤ) (r : List ℕ) (n : ℕ) → write xs (length r) ≡ answered n → roomAfter xs r ≡ image (codeFor xs 0) xs r 48
+pub room-written : (xs : List ℤ) (r : List ℕ) (n : ℕ) → write xs (length r) ≡ answered n → roomAfter xs r ≡ image (codeFor xs 0) xs r 48
 unfolding roomAfter
 room-written xs r n e = rw e
 
@@ -133,13 +134,13 @@ unfolding roomAfter
 room-refused xs r n c e = rw e
 
 -- the version is the number for field 0
-code-version : (xs : List ℤ) (v : ℕ) → numberFor xs 0 ≡ pos v → codeFor xs 0 ≡ v
+pub code-version : (xs : List ℤ) (v : ℕ) → numberFor xs 0 ≡ pos v → codeFor xs 0 ≡ v
 unfolding codeOf
 code-version xs v e = rw e
 
-version-most : (xs : List ℤ) (v : ℕ) → numberFor xs 0 ≡ pos v → isVersion (numberFor xs 0) ≡ true → v ≤ 5
-unfolding isVersion
-version-most xs v e h = leb-true v 5 (rw e at h)
+pub version-most : (xs : List ℤ) (v : ℕ) → numberFor xs 0 ≡ pos v → noVersion (numberFor xs 0) ≡ false → v ≤ 5
+unfolding noVersion
+version-most xs v e h = ltb-false 5 v (rw e at h)
 
 pub touches-only : TouchesOnly write roomAfter
 touches-only xs r = (room-refused xs r, wrote)
@@ -231,8 +232,8 @@ module _ (b : List ℕ) (bytes : Bytes b) (most : version b ≤ 5) (a : Accepted
   sized = rw (min-eq-left most) at (a .sized)
 
   written : (r : ℕ) → tableSize (version b) ≤ r → write xs r ≡ answered (tableSize (version b))
-  unfolding write isVersion
-  written r h = rw (first-code, first-number, le-leb (version b) 5 most, le-ltb r (tableSize (version b)) h, fits-all, kept)
+  unfolding write noVersion
+  written r h = rw (first-code, first-number, le-ltb 5 (version b) most, le-ltb r (tableSize (version b)) h, fits-all, kept)
 
   pub same-bytes : (r : List ℕ) → tableSize (version b) ≤ length r → (write xs (length r) ≡ answered (tableSize (version b))) × Holds (version b) b r (roomAfter xs r)
   same-bytes r h =

@@ -1,7 +1,7 @@
 -- Document 01, "The writer": what 48 whole numbers and lent room give, and demand 2's last two sentences as predicates over any reader and writer.
 use Prim.Native.Nat.{ℕ, zero, suc, _-_, _/_, _^_, _<_, _≤_}
 use mathlib.Core.Path.{_≡_}
-use mathlib.Core.Bool.{Bool, false, cond, not, _&&_}
+use mathlib.Core.Bool.{Bool, true, cond, not, _&&_}
 use mathlib.Core.Option.{Option, none, some}
 use mathlib.Core.List.{List, _++_}
 use lib.Dec.{ltb, leb}
@@ -41,9 +41,9 @@ codeFor xs k = codeOf (fieldOf k) (numberFor xs k)
 -- ---- the refusals
 
 -- 4: "asked to write a version outside 0 to 5"
-unfoldable pub isVersion : ℤ → Bool
-isVersion (pos v) = leb v 5
-isVersion (negsuc v) = false
+unfoldable pub noVersion : ℤ → Bool
+noVersion (pos v) = ltb 5 v
+noVersion (negsuc v) = true
 
 -- 8: "a value to write doesn't fit its field", of the fields that the version has
 unfoldable pub misfit : ℕ → List ℤ → ℕ → Bool
@@ -80,7 +80,7 @@ valuesFor v xs =
 -- "Writer: 4, 5, 8, 3"; it answers the version's size. r is the length of the room
 unfoldable pub write : List ℤ → ℕ → Outcome ℕ
 write xs r =
-    unless (not (isVersion (numberFor xs 0))) 4
+    unless (noVersion (numberFor xs 0)) 4
     (unless (ltb r (tableSize (codeFor xs 0))) 5
     (unlessMisfit (lowestMisfit (codeFor xs 0) xs 48)
     (unlessBroken (verdictOf (valuesFor (codeFor xs 0) xs))
