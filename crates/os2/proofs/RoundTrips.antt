@@ -129,7 +129,7 @@ pub room-written : (xs : List ℤ) (r : List ℕ) (n : ℕ) → write xs (length
 unfolding roomAfter
 room-written xs r n e = rw e
 
-room-refused : (xs : List ℤ) (r : List ℕ) (n : ℕ) (c : Option ℕ) → write xs (length r) ≡ refused n c → roomAfter xs r ≡ r
+pub room-refused : (xs : List ℤ) (r : List ℕ) (n : ℕ) (c : Option ℕ) → write xs (length r) ≡ refused n c → roomAfter xs r ≡ r
 unfolding roomAfter
 room-refused xs r n c e = rw e
 

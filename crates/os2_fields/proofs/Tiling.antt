@@ -163,6 +163,11 @@ pub fills : (k v : ℕ) → k < 47 → fieldOf k .since ≤ v → v < fieldOf (s
 fills k v h s l = omega (arith, inside k v (omega arith) s, outside (suc k) v (omega arith) l, adjoin k h)
 
 -- a signed field has two bytes
+
+-- a field has 1, 2 or 4 bytes, a signed one has two
+pub width-is : (k : ℕ) → k < 48 → (fieldOf k .width ≡ 1) ⊎ ((fieldOf k .width ≡ 2) ⊎ (fieldOf k .width ≡ 4))
+width-is k h = fields k h .width
+
 pub sign-width : (k : ℕ) → k < 48 → fieldOf k .signed ≡ true → fieldOf k .width ≡ 2
 sign-width k h = fields k h .sign
 

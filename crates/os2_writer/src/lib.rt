@@ -1,0 +1,237 @@
+// The 'OS/2' writer: 48 whole numbers, stored as a table in lent room, and the rewriting of a table.
+// Document 01, "The writer", in its order of refusals: 4, 5, 8, 3.
+// Relies on `os2` for the definitions of what is written, `os2_fields` for the catalogue, `os2_rules` for the value rules and `bigendian`
+// for the stores.
+ghost use mathlib.Core.Path.{_≡_};
+ghost use Prim.Native.Nat.{_^_, _≤_};
+ghost use mathlib.Core.Bool.{true, cond, not, _&&_};
+ghost use lib.Dec.{ltb, leb};
+ghost use lib.ListN.{length};
+ghost use lib.IntN.{pos};
+ghost use Rattle.bigendian.specs.Numbers.{stored};
+ghost use Rattle.os2.specs.Writing.{fits, codeOf, codeFor, noVersion, lowestMisfit, valuesFor, write, image, roomAfter};
+ghost use Rattle.os2_writer.specs.Replies.{refusalNumber, saidWritten};
+ghost use Rattle.os2_writer.specs.Storing.{Wide, Sound, Storable, WordFor, Fitting, Ready, misfitFound};
+use os2_fields::FSSELECTION;
+use os2_fields::FSTYPE;
+use os2_fields::Field;
+use os2_fields::LOWER_SIZE;
+use os2_fields::UPPER_SIZE;
+use os2_fields::VERSION;
+use os2_fields::WEIGHT;
+use os2_fields::WIDTH;
+use os2_rules::Values;
+use os2_rules::Verdict;
+
+// Why nothing is written.
+pub enum WriteRefusal {
+    // 4: the version is outside 0 to 5.
+    NoVersion,
+    // 5: the room is shorter than the version's size.
+    NoRoom,
+    // 8: a value does not fit its field; carries the lowest such field.
+    DoesNotFit(u32),
+    // 3: a value rule is broken; carries the first, 1 to 7.
+    RuleBroken(u32),
+}
+
+impl WriteRefusal {
+    // Document 01's number.
+    pub fn number(self) -> u32
+        ensures { λ r. ⌜ r ≡ refusalNumber self ⌝ }
+    {
+        match self {
+            WriteRefusal::NoVersion => 4,
+            WriteRefusal::NoRoom => 5,
+            WriteRefusal::DoesNotFit(_) => 8,
+            WriteRefusal::RuleBroken(_) => 3,
+        }
+    }
+}
+
+// What came of writing.
+pub enum Written {
+    // The bytes written: the version's size.
+    Size(usize),
+    Refused(WriteRefusal),
+}
+
+// Writes the table of 48 whole numbers, of which number 0 is the version, and answers its size.
+pub fn write(numbers: [i64; 48], room: &mut [u8]) -> Written
+    ensures { λ r. ⌜ (saidWritten r ≡ write numbers (length (now (room .entry)))) × (now (room .exit) ≡ roomAfter numbers (now (room .entry))) ⌝ }
+{
+    match check(&numbers, room.len()) {
+        Written::Refused(why) => Written::Refused(why),
+        Written::Size(size) => {
+            let version = numbers[VERSION] as u32;
+            store(&numbers, version, room);
+            Written::Size(size)
+        }
+    }
+}
+
+// The four refusals, or the size.
+fn check(numbers: &[i64], room: usize) -> Written
+    requires { ⌜ length (now numbers) ≡ 48 ⌝ }
+    ensures { λ r. ⌜ saidWritten r ≡ write (now (numbers .entry)) room ⌝ }
+{
+    let first = numbers[VERSION];
+    if no_version(first) {
+        return Written::Refused(WriteRefusal::NoVersion);
+    }
+    let version = first as u32;
+    let size = level::version_size(version);
+    if room < size {
+        return Written::Refused(WriteRefusal::NoRoom);
+    }
+    let k = lowest_misfit(numbers, version);
+    if k < 48 {
+        return Written::Refused(WriteRefusal::DoesNotFit(k as u32));
+    }
+    match os2_rules::judge(values(numbers, version)) {
+        Verdict::Kept => Written::Size(size),
+        Verdict::Broken(rule) => Written::Refused(WriteRefusal::RuleBroken(rule)),
+    }
+}
+
+// Refusal 4's test.
+fn no_version(x: i64) -> bool
+    ensures { λ r. ⌜ r ≡ noVersion x ⌝ }
+{
+    x < 0 || 5 < x
+}
+
+// The lowest field of the version that its number does not fit, or 48.
+fn lowest_misfit(numbers: &[i64], version: u32) -> usize
+    requires { ⌜ length (now numbers) ≡ 48 ⌝ }
+    ensures { λ r. ⌜ misfitFound r ≡ lowestMisfit version (now (numbers .entry)) 48 ⌝ }
+{
+    let fields = os2_fields::entries();
+    let mut k: usize = 0;
+    while k < 48 {
+        if misfits(fields[k], numbers[k], version) {
+            return k;
+        }
+        k += 1;
+    }
+    48
+}
+
+// Whether the version has a field that its number does not fit.
+fn misfits(f: Field, x: i64, version: u32) -> bool
+    requires { ⌜ Sound f ⌝ }
+    ensures { λ r. ⌜ r ≡ (leb (f .since) version && not (fits f x)) ⌝ }
+{
+    let since = f.since as u32;
+    if version < since {
+        return false;
+    }
+    !fits(f, x)
+}
+
+// What the value rules look at.
+fn values(numbers: &[i64], version: u32) -> Values
+    requires { ⌜ Fitting version (now numbers) ⌝ }
+    ensures { λ r. ⌜ r ≡ valuesFor version (now (numbers .entry)) ⌝ }
+{
+    Values {
+        version: version as u16,
+        weight: word(numbers, WEIGHT),
+        width: word(numbers, WIDTH),
+        fstype: word(numbers, FSTYPE),
+        fsselection: word(numbers, FSSELECTION),
+        lower: optical_size(numbers, version, LOWER_SIZE),
+        upper: optical_size(numbers, version, UPPER_SIZE),
+    }
+}
+
+// An optical size, 0 where the version has none.
+fn optical_size(numbers: &[i64], version: u32, k: usize) -> u16
+    requires { ⌜ (5 ≤ version → WordFor (now numbers) k) ⌝ }
+    ensures { λ r. ⌜ r ≡ cond (ltb version 5) 0 (codeFor (now (numbers .entry)) k) ⌝ }
+{
+    if version < 5 {
+        return 0;
+    }
+    word(numbers, k)
+}
+
+// The number for an unsigned field of two bytes.
+fn word(numbers: &[i64], k: usize) -> u16
+    requires { ⌜ WordFor (now numbers) k ⌝ }
+    ensures { λ r. ⌜ r ≡ codeFor (now (numbers .entry)) k ⌝ }
+{
+    numbers[k] as u16
+}
+
+// Stores the fields that the version has.
+fn store(numbers: &[i64], version: u32, room: &mut [u8])
+    requires { ⌜ Ready version (now numbers) (length (now room)) ⌝ }
+    ensures { λ _. ⌜ now (room .exit) ≡ image version (now (numbers .entry)) (now (room .entry)) 48 ⌝ }
+{
+    let fields = os2_fields::entries();
+    let mut k: usize = 0;
+    while k < 48 {
+        let f = fields[k];
+        let since = f.since as u32;
+        if version < since {
+            return;
+        }
+        put(room, f, code(f, numbers[k]));
+        k += 1;
+    }
+}
+
+// Stores a number in a field.
+fn put(room: &mut [u8], f: Field, code: u32)
+    requires { ⌜ Storable (now room) f code ⌝ }
+    ensures { λ _. ⌜ now (room .exit) ≡ stored (f .width) (now (room .entry)) (f .offset) code ⌝ }
+{
+    let at = f.offset as usize;
+    let width = f.width;
+    if width == 1 {
+        room[at] = code as u8;
+        return;
+    }
+    if width == 2 {
+        bigendian::store_u16(room, at, code as u16);
+        return;
+    }
+    bigendian::store_u32(room, at, code);
+}
+
+// What the bytes of a field then make.
+fn code(f: Field, x: i64) -> u32
+    requires { ⌜ Sound f × (fits f x ≡ true) ⌝ }
+    ensures { λ r. ⌜ r ≡ codeOf f x ⌝ }
+{
+    if x < 0 {
+        return (x + 65536) as u32;
+    }
+    x as u32
+}
+
+// Whether a whole number fits a field.
+fn fits(f: Field, x: i64) -> bool
+    requires { ⌜ Sound f ⌝ }
+    ensures { λ r. ⌜ r ≡ fits f x ⌝ }
+{
+    if f.signed {
+        return -32768 <= x && x < 32768;
+    }
+    0 <= x && x < top(f.width)
+}
+
+// One more than the highest number of so many bytes.
+fn top(width: u8) -> i64
+    requires { ⌜ Wide width ⌝ }
+    ensures { λ r. ⌜ r ≡ pos (256 ^ width) ⌝ }
+{
+    if width == 1 {
+        return 256;
+    }
+    if width == 2 {
+        return 65536;
+    }
+    4294967296
+}
