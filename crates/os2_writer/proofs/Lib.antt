@@ -1,3 +1,4 @@
 pub mod Signs
 pub mod Steps
 pub mod Outcomes
+pub mod Rewriting

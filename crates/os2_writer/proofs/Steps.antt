@@ -6,15 +6,21 @@ use mathlib.Core.Bool.{true, false}
 use mathlib.Core.Option.{none, some}
 use mathlib.Core.List.{List}
 use native.Mathlib.Nat.{le-trans}
-use native.Mathlib.Decide.{ℕ-discrete}
+use native.Mathlib.Decide.{ℕ-discrete, decLt}
 use native.Mathlib.Omega.{arith}
-use lib.ListN.{length, getD}
-use lib.IntN.{ℤ}
+use lib.ListN.{length, getD, set}
+use lib.Seq.{getD-set-same, getD-set-other}
+use lib.IntN.{ℤ, pos}
 use Rattle.level.specs.Sizes.{tableSize}
 use Rattle.os2_fields.specs.declared.catalogue.Field.{Field}
 use Rattle.os2_fields.specs.Catalogue.{plain, catalogue, fieldOf}
-use Rattle.os2_fields.proofs.Tiling.{inside, width-is, sign-width, since-rises}
-use Rattle.os2.specs.Writing.{numberFor, fits, codeFor, misfit, lowestMisfit, image}
+use Rattle.os2_fields.proofs.Tiling.{inside, width-is, sign-width, since-rises, version-word}
+use Rattle.os2_fields.specs.Fields.{version}
+use Rattle.os2_fields.specs.Reading.{Lies, Word}
+use Rattle.os2.specs.Outcomes.{accepted}
+use Rattle.os2.specs.Acceptance.{judged}
+use Rattle.os2.proofs.Accepting.{open-two, open-lies}
+use Rattle.os2.specs.Writing.{numberFor, fits, codeFor, misfit, lowestMisfit, image, InVersion}
 use Rattle.os2.proofs.Codes.{code-small}
 use Rattle.os2.proofs.RoundTrips.{no-misfit}
 use Rattle.os2_writer.specs.Storing.{Sound, Storable, WordFor, Fitting}
@@ -28,6 +34,17 @@ entry-is fs k e = rw e
 
 pub sound : (k : ℕ) → k < 48 → Sound (fieldOf k)
 sound k h = record { wide = width-is k h; signs = sign-width k h }
+
+since-most : (k : ℕ) → k < 48 → fieldOf k .since ≤ 5
+unfolding fieldOf catalogue
+since-most k h = since-rises k 47 (omega arith) (omega arith)
+
+-- of a table that level 5 accepts, a field that its version has can be read
+pub readable : (b : List ℕ) → judged 5 b ≡ accepted → (k : ℕ) → k < 48 → fieldOf k .since ≤ version b → Lies b (fieldOf k)
+readable b told k h s = open-lies 5 b told k h (since-most k h) s
+
+pub version-readable : (b : List ℕ) → judged 5 b ≡ accepted → Word b 0
+version-readable b told = version-word b (open-two 5 b told)
 
 module _ (v : ℕ) (xs : List ℤ) (fit : Fitting v xs) where
   pub fit-at : (k : ℕ) → k < 48 → fieldOf k .since ≤ v → fits (fieldOf k) (numberFor xs k) ≡ true
@@ -76,3 +93,22 @@ module _ (v : ℕ) (xs : List ℤ) where
       at : Dec (k ≡ suc n) → (k ≤ n → image v xs room n ≡ image v xs room k) → image v xs room (suc n) ≡ image v xs room k
       at (yes q) r = rw q
       at (no q) r = image-lacks v xs room n (le-trans s (since-rises k n (omega arith) l)) ∙ r (omega arith)
+
+-- ---- the numbers read
+
+-- the fields below k are read, and then field k
+pub read-next : (value : ℕ → ℤ) (xs : List ℤ) (k : ℕ) (z : ℤ) → k < length xs → ((j : ℕ) → j < k → numberFor xs j ≡ value j) → z ≡ value k →
+    (j : ℕ) → j < suc k → numberFor (set xs k z) j ≡ value j
+read-next value xs k z l h e j m = at (ℕ-discrete j k)
+  where
+    at : Dec (j ≡ k) → numberFor (set xs k z) j ≡ value j
+    at (yes q) = rw q (getD-set-same xs k z (pos 0) l ∙ e)
+    at (no q) = getD-set-other xs k j z (pos 0) q ∙ h j (omega arith)
+
+-- a field that a version has comes before one that it lacks
+pub comes-before : (v j k : ℕ) → InVersion v j → v < fieldOf k .since → k < 48 → j < k
+comes-before v j k i s h = at (decLt j k)
+  where
+    at : Dec (j < k) → j < k
+    at (yes l) = l
+    at (no l) = absurd (omega (arith, i .1, since-rises k j (omega arith) (i .0)))

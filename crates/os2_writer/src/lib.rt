@@ -10,8 +10,12 @@ ghost use lib.ListN.{length};
 ghost use lib.IntN.{pos};
 ghost use Rattle.bigendian.specs.Numbers.{stored};
 ghost use Rattle.os2.specs.Writing.{fits, codeOf, codeFor, noVersion, lowestMisfit, valuesFor, write, image, roomAfter};
-ghost use Rattle.os2_writer.specs.Replies.{refusalNumber, saidWritten};
+ghost use Rattle.os2.specs.Outcomes.{accepted};
+ghost use Rattle.os2.specs.Acceptance.{judged};
+ghost use Rattle.os2_writer.specs.Replies.{refusalNumber, saidWritten, saidRewritten};
+ghost use Rattle.os2_writer.specs.Rewriting.{Reading, rewritten, roomRewritten};
 ghost use Rattle.os2_writer.specs.Storing.{Wide, Sound, Storable, WordFor, Fitting, Ready, misfitFound};
+use os2::Checked;
 use os2_fields::FSSELECTION;
 use os2_fields::FSTYPE;
 use os2_fields::Field;
@@ -54,6 +58,50 @@ pub enum Written {
     // The bytes written: the version's size.
     Size(usize),
     Refused(WriteRefusal),
+}
+
+// What came of rewriting.
+pub enum Rewritten {
+    // The bytes written: the size of the table's version.
+    Size(usize),
+    // The reader's refusal at level 5: 2, or 3 with the first rule broken.
+    Unread(os2::Refusal),
+    // The writer's refusal: 4, the table's version being above 5, or 5.
+    Unwritten(WriteRefusal),
+}
+
+// Reads the fields of a table's version at level 5 and writes them.
+pub fn rewrite(table: &[u8], room: &mut [u8]) -> Rewritten
+    ensures { λ r. ⌜ (saidRewritten r ≡ rewritten (now (table .entry)) (length (now (room .entry)))) × (now (room .exit) ≡ roomRewritten (now (table .entry)) (now (room .entry))) ⌝ }
+{
+    match os2::check(table, 5) {
+        Checked::Refused(why) => Rewritten::Unread(why),
+        Checked::Accepted => match write(read(table), room) {
+            Written::Size(size) => Rewritten::Size(size),
+            Written::Refused(why) => Rewritten::Unwritten(why),
+        },
+    }
+}
+
+// The whole numbers in the fields that a table's version has, of a table that level 5 accepts; 0 for the other fields.
+fn read(table: &[u8]) -> [i64; 48]
+    requires { ⌜ judged 5 (now table) ≡ accepted ⌝ }
+    ensures { λ r. ⌜ Reading (now (table .entry)) r ⌝ }
+{
+    let fields = os2_fields::entries();
+    let version = os2_fields::word(table, VERSION);
+    let mut numbers: [i64; 48] = [0; 48];
+    let mut k: usize = 0;
+    while k < 48 {
+        let f = fields[k];
+        let since = f.since as u16;
+        if version < since {
+            return numbers;
+        }
+        numbers[k] = os2_fields::value(table, f);
+        k += 1;
+    }
+    numbers
 }
 
 // Writes the table of 48 whole numbers, of which number 0 is the version, and answers its size.

@@ -1,0 +1,35 @@
+-- What rewriting a table gives: "One of version 0 to 5 that level 5 accepts, rewritten, is the same bytes up to its version's size."
+use Prim.Native.Nat.{ℕ}
+use mathlib.Core.Path.{_≡_}
+use mathlib.Core.List.{List, _++_}
+use lib.Dec.{ltb}
+use lib.ListN.{length, take, drop}
+use lib.IntN.{ℤ}
+use Rattle.level.specs.Sizes.{tableSize}
+use Rattle.os2_fields.specs.Catalogue.{fieldOf}
+use Rattle.os2_fields.specs.Fields.{valueIn, version}
+use Rattle.os2.specs.Outcomes.{Outcome, refused, answered, unless}
+use Rattle.os2.specs.Acceptance.{checked}
+use Rattle.os2.specs.Writing.{numberFor, InVersion, whereWritten}
+
+-- the refusal, or else what comes after it in the order
+abbrev pub passing : {A B : Type 0} → Outcome A → Outcome B → Outcome B
+passing (refused n c) o = refused n c
+passing (answered x) o = o
+
+-- the reader's refusals at level 5, which are 2 and 3, then the writer's 4 and 5; 8 and 3 cannot follow. r is the length of the room
+unfoldable pub rewritten : List ℕ → ℕ → Outcome ℕ
+rewritten b r =
+    passing (checked 5 b)
+    (unless (ltb 5 (version b)) 4
+    (unless (ltb r (tableSize (version b))) 5
+    (answered (tableSize (version b)))))
+
+-- the room: the table's own bytes up to its version's size, and then what was there; what it held, after a refusal
+unfoldable pub roomRewritten : List ℕ → List ℕ → List ℕ
+roomRewritten b room =
+    whereWritten (rewritten b (length room)) (take (tableSize (version b)) b ++ drop (tableSize (version b)) room) room
+
+-- xs are the whole numbers in the fields that the table's version has
+abbrev pub Reading : List ℕ → List ℤ → Type 0
+Reading b xs = (k : ℕ) → InVersion (version b) k → numberFor xs k ≡ valueIn b (fieldOf k)
