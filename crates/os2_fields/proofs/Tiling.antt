@@ -162,8 +162,6 @@ outside k v h s = fields k h .outside v s
 pub fills : (k v : ℕ) → k < 47 → fieldOf k .since ≤ v → v < fieldOf (suc k) .since → fieldOf k .offset + fieldOf k .width ≡ tableSize v
 fills k v h s l = omega (arith, inside k v (omega arith) s, outside (suc k) v (omega arith) l, adjoin k h)
 
--- a signed field has two bytes
-
 -- a field has 1, 2 or 4 bytes, a signed one has two
 pub width-is : (k : ℕ) → k < 48 → (fieldOf k .width ≡ 1) ⊎ ((fieldOf k .width ≡ 2) ⊎ (fieldOf k .width ≡ 4))
 width-is k h = fields k h .width
