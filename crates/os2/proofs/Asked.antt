@@ -30,6 +30,15 @@ module _ (L : ℕ) (b : List ℕ) where
   unfolding checked
   checked-refused e = rw (lt-ltb 5 L (level-refused L e))
 
+  -- a table that the check accepts is one that neither 2 nor 3 turns away
+  pub open-checked : accepted ≡ checked L b → judged L b ≡ accepted
+  unfolding checked
+  open-checked = at (ltb 5 L)
+    where
+      at : (t : Bool) → accepted ≡ unless t 1 (judged L b) → judged L b ≡ accepted
+      at true e = let z : _≡_ {A = ℕ} 0 1 = cc in absurd (omega arith)
+      at false e = sym e
+
   module _ (q : Question) where
     pub opened-refused : levelOf L ≡ Refused → refused 1 none ≡ opened L b q
     unfolding opened
