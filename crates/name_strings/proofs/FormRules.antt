@@ -7,7 +7,7 @@ use mathlib.Core.List.{List}
 use mathlib.Core.Logic.{_↔_}
 use mathlib.Mathlib.Data.Bool.Basic.{or-eq-false-eq-eq-false-and-eq-false}
 use native.Mathlib.Omega.{arith}
-use lib.Dec.{ltb, eqb}
+use lib.Dec.{eqb}
 use lib.ListN.{length, getD}
 use lib.Seq.{ext-getD}
 use borrow.Author.Tests.{ltb-false, le-ltb, eqb-true, eqb-false, eq-eqb, ne-eqb, not-false}
@@ -15,7 +15,7 @@ use Rattle.characters.specs.Strings.{characters, char, odd}
 use Rattle.characters.proofs.Laws.{length-pairs, char-pairs}
 use Rattle.charset.specs.Allowed.{allowed, Allowed}
 use Rattle.charset.proofs.Laws.{allowed-is}
-use Rattle.name_strings.specs.Forms.{someOf, wrongCount, otherAt, illFormed, differAt, differ}
+use Rattle.name_strings.specs.Forms.{someOf, tooFew, tooMany, wrongCount, otherAt, illFormed, differAt, differ}
 use Rattle.name_strings.specs.Names.{eitherIll}
 use Rattle.name_strings.specs.WellFormed.{WellFormed}
 use Rattle.name_strings.proofs.FormLaws.{none-of, same-here}
@@ -24,11 +24,19 @@ use Rattle.name_strings.proofs.FormLaws.{none-of, same-here}
 both-false : (a b : Bool) → ((a || b) ≡ false) ↔ ((a ≡ false) × (b ≡ false))
 both-false a b = or-eq-false-eq-eq-false-and-eq-false a b
 
+some-there : (n : ℕ) → (tooFew n ≡ false) ↔ (1 ≤ n)
+unfolding tooFew
+some-there n = (λ e. omega (arith, ltb-false), λ h. le-ltb _ _ h)
+
+no-more : (n : ℕ) → (tooMany n ≡ false) ↔ (n ≤ 63)
+unfolding tooMany
+no-more n = (λ e. omega (arith, ltb-false), λ h. le-ltb _ _ h)
+
 right-count : (n : ℕ) → (wrongCount n ≡ false) ↔ ((1 ≤ n) × (n ≤ 63))
 unfolding wrongCount
 right-count n = (
-  λ e. let p = both-false (ltb n 1) (ltb 63 n) .0 e in (ltb-false _ _ (p .0), ltb-false _ _ (p .1)),
-  λ p. both-false (ltb n 1) (ltb 63 n) .1 (le-ltb _ _ (p .0), le-ltb _ _ (p .1)),
+  λ e. let p = both-false (tooFew n) (tooMany n) .0 e in (some-there n .0 (p .0), no-more n .0 (p .1)),
+  λ p. both-false (tooFew n) (tooMany n) .1 (some-there n .1 (p .0), no-more n .1 (p .1)),
 )
 
 no-other : (l : List ℕ) (k : ℕ) → (otherAt l k ≡ false) ↔ Allowed (char l k)

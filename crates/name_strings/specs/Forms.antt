@@ -13,8 +13,14 @@ someOf test zero = false
 someOf test (suc n) = someOf test n || test n
 
 -- not "1 to 63 characters"
+unfoldable pub tooFew : ℕ → Bool
+tooFew n = ltb n 1
+
+unfoldable pub tooMany : ℕ → Bool
+tooMany n = ltb 63 n
+
 unfoldable pub wrongCount : ℕ → Bool
-wrongCount n = ltb n 1 || ltb 63 n
+wrongCount n = tooFew n || tooMany n
 
 -- the character at k is not one of the 84; so neither is a two-byte character whose high byte isn't 0
 unfoldable pub otherAt : List ℕ → ℕ → Bool

@@ -23,13 +23,13 @@ accepted c = cc
 
 -- what the two lookups found
 first-at : (c : tie.After-known-told2) → recordOf (table (c .before .before .before .before .before)) 1 0 0 6 ≡ At (c .before .first .given .0 .0)
-first-at c = cc
+first-at c = sym (c .before .before .before .before .find .ensures) ∙ c .before .first .given .1
 
 second-at : (c : tie.After-known-told3) → recordOf (table (c .before .before .before .before .before .before .before .before)) 3 1 1033 6 ≡ At (c .before .second .given .0 .0)
-second-at c = cc
+second-at c = sym (c .before .before .before .before .before .before .find2 .ensures) ∙ c .before .second .given .1
 
 first-none : (c : tie.After-enum-told3) → recordOf (table (c .before .before .before .before)) 1 0 0 6 ≡ Nowhere
-first-none c = cc
+first-none c = sym (c .before .before .before .find .ensures) ∙ c .enum-told3 .given .1
 
 check-requires : tie.Need-check-requires
 check-requires c κs = search needs

@@ -23,13 +23,13 @@ accepted c = cc
 
 -- what the two lookups found
 wide-at : (c : tie.After-known-told2) → recordOf (table (c .before .before .before .before)) 3 1 1033 5 ≡ At (c .before .i .given .0 .0)
-wide-at c = cc
+wide-at c = sym (c .before .before .before .find .ensures) ∙ c .before .i .given .1
 
 wide-none : (c : tie.After-enum-told2) → recordOf (table (c .before .before .before)) 3 1 1033 5 ≡ Nowhere
-wide-none c = cc
+wide-none c = sym (c .before .before .find .ensures) ∙ c .enum-told2 .given .1
 
 narrow-at : (c : tie.After-known-told3) → recordOf (table (c .before .before .before .before .before .before .before)) 1 0 0 5 ≡ At (c .before .i2 .given .0 .0)
-narrow-at c = cc
+narrow-at c = sym (c .before .before .before .find2 .ensures) ∙ c .before .i2 .given .1
 
 check-requires : tie.Need-check-requires
 check-requires c κs = search needs

@@ -1,16 +1,16 @@
 -- Each way decides the tests of the definition.
 -- Assumes nothing.
 use Rattle.name.proofs.Layouts.{decided}
-use Rattle.name_strings.specs.Forms.{wrongCount}
+use Rattle.name_strings.specs.Forms.{tooFew, tooMany, wrongCount}
 use Rattle.name_strings.proofs.wrong_count.Statement.{statement}
 use Rattle.name_strings.proofs.wrong_count.Tie as tie
 
 returns : tie.Need-returns
-unfolding wrongCount
+unfolding wrongCount tooFew tooMany
 returns c = search decided
 
 returns-2 : tie.Need-returns-2
-unfolding wrongCount
+unfolding wrongCount tooFew tooMany
 returns-2 c = search decided
 
 pub wrong-count-spec : {M : Type 1} → statement M
