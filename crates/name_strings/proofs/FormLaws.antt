@@ -3,21 +3,16 @@
 use Prim.Native.Nat.{ℕ, zero, suc, _+_, _<_}
 use mathlib.Core.Path.{_≡_, refl}
 use mathlib.Core.Logic.{_↔_, ⊎-elim}
-use mathlib.Core.Bool.{Bool, true, false, _||_}
+use mathlib.Core.Bool.{Bool, true, false, or-true}
 use mathlib.Core.List.{List}
-use mathlib.Mathlib.Data.Bool.Basic.{or-eq-false-eq-eq-false-and-eq-false}
 use native.Mathlib.Nat.{not-suc-le-zero, le-of-suc-le-suc, eq-or-lt-of-le}
 use native.Mathlib.Numerals.{add-one}
 use native.Mathlib.Omega.{arith}
 use lib.ListN.{length}
 use borrow.Author.Tests.{eq-eqb, ne-eqb}
 use Rattle.characters.specs.Strings.{characters, char, odd}
-use Rattle.charset.specs.Allowed.{allowed}
+use Rattle.name.proofs.Acceptances.{or-false}
 use Rattle.name_strings.specs.Forms.{someOf, wrongCount, otherAt, illFormed, differAt, differ}
-
-or-true : (a : Bool) → (a || true) ≡ true
-or-true true = refl
-or-true false = refl
 
 module _ (test : ℕ → Bool) where
   pub some-none : someOf test 0 ≡ false
@@ -38,7 +33,7 @@ module _ (test : ℕ → Bool) where
   unfolding someOf
   each zero a k l = absurd (not-suc-le-zero l)
   each (suc n) a k l =
-      let p = or-eq-false-eq-eq-false-and-eq-false (someOf test n) (test n) .0 a in
+      let p = or-false (someOf test n) (test n) .0 a in
       ⊎-elim (λ q. rw q (p .1)) (λ q. each n (p .0) k q) (eq-or-lt-of-le (le-of-suc-le-suc l))
 
   all : (n : ℕ) → ((k : ℕ) → k < n → test k ≡ false) → someOf test n ≡ false

@@ -1,11 +1,10 @@
 -- What the tests of form and of difference decide, as propositions: part by part; an allowed code is at most 126, so its high byte is 0.
 -- Assumes nothing.
 use Prim.Native.Nat.{ℕ, _*_, _/_, _%_, _≤_, _<_}
-use mathlib.Core.Path.{_≡_, refl, sym}
+use mathlib.Core.Path.{_≡_, refl}
 use mathlib.Core.Bool.{Bool, true, false, not, _||_}
 use mathlib.Core.List.{List}
 use mathlib.Core.Logic.{_↔_}
-use mathlib.Mathlib.Data.Bool.Basic.{or-eq-false-eq-eq-false-and-eq-false}
 use native.Mathlib.Omega.{arith}
 use lib.Dec.{eqb}
 use lib.ListN.{length, getD}
@@ -13,16 +12,13 @@ use lib.Seq.{ext-getD}
 use borrow.Author.Tests.{ltb-false, le-ltb, eqb-true, eqb-false, eq-eqb, ne-eqb, not-false}
 use Rattle.characters.specs.Strings.{characters, char, odd}
 use Rattle.characters.proofs.Laws.{length-pairs, char-pairs}
-use Rattle.charset.specs.Allowed.{allowed, Allowed}
+use Rattle.charset.specs.Allowed.{Allowed}
 use Rattle.charset.proofs.Laws.{allowed-is}
+use Rattle.name.proofs.Acceptances.{or-false}
 use Rattle.name_strings.specs.Forms.{someOf, tooFew, tooMany, wrongCount, otherAt, illFormed, differAt, differ}
 use Rattle.name_strings.specs.Names.{eitherIll}
 use Rattle.name_strings.specs.WellFormed.{WellFormed}
 use Rattle.name_strings.proofs.FormLaws.{none-of, same-here}
-
--- two tests that both fail
-both-false : (a b : Bool) → ((a || b) ≡ false) ↔ ((a ≡ false) × (b ≡ false))
-both-false a b = or-eq-false-eq-eq-false-and-eq-false a b
 
 some-there : (n : ℕ) → (tooFew n ≡ false) ↔ (1 ≤ n)
 unfolding tooFew
@@ -35,8 +31,8 @@ no-more n = (λ e. omega (arith, ltb-false), λ h. le-ltb _ _ h)
 right-count : (n : ℕ) → (wrongCount n ≡ false) ↔ ((1 ≤ n) × (n ≤ 63))
 unfolding wrongCount
 right-count n = (
-  λ e. let p = both-false (tooFew n) (tooMany n) .0 e in (some-there n .0 (p .0), no-more n .0 (p .1)),
-  λ p. both-false (tooFew n) (tooMany n) .1 (some-there n .1 (p .0), no-more n .1 (p .1)),
+  λ e. let p = or-false (tooFew n) (tooMany n) .0 e in (some-there n .0 (p .0), no-more n .0 (p .1)),
+  λ p. or-false (tooFew n) (tooMany n) .1 (some-there n .1 (p .0), no-more n .1 (p .1)),
 )
 
 no-other : (l : List ℕ) (k : ℕ) → (otherAt l k ≡ false) ↔ Allowed (char l k)
@@ -59,8 +55,8 @@ well-formed wide bytes = (holds, passes)
     holds : illFormed wide bytes ≡ false → WellFormed wide bytes
     holds e =
         let l = characters wide bytes in
-        let p = both-false (odd wide bytes || wrongCount (length l)) (someOf (otherAt l) (length l)) .0 e in
-        let q = both-false (odd wide bytes) (wrongCount (length l)) .0 (p .0) in
+        let p = or-false (odd wide bytes || wrongCount (length l)) (someOf (otherAt l) (length l)) .0 e in
+        let q = or-false (odd wide bytes) (wrongCount (length l)) .0 (p .0) in
         let n = right-count (length l) .0 (q .1) in
         let c : (k : ℕ) → k < length l → Allowed (char l k) = λ k h. no-other l k .0 (none-of (otherAt l) (length l) .0 (p .1) k h) in
         let v = even-length wide bytes .0 (q .0) in
@@ -77,8 +73,8 @@ well-formed wide bytes = (holds, passes)
     passes : WellFormed wide bytes → illFormed wide bytes ≡ false
     passes f =
         let l = characters wide bytes in
-        both-false (odd wide bytes || wrongCount (length l)) (someOf (otherAt l) (length l)) .1 (
-          both-false (odd wide bytes) (wrongCount (length l)) .1 (
+        or-false (odd wide bytes || wrongCount (length l)) (someOf (otherAt l) (length l)) .1 (
+          or-false (odd wide bytes) (wrongCount (length l)) .1 (
             even-length wide bytes .1 (f .even),
             right-count (length l) .1 (f .least, f .most),
           ),
@@ -88,8 +84,8 @@ well-formed wide bytes = (holds, passes)
 pub both-formed : (x y : List ℕ) → (eitherIll x y ≡ false) ↔ (WellFormed false x × WellFormed true y)
 unfolding eitherIll
 both-formed x y = (
-  λ e. let p = both-false (illFormed false x) (illFormed true y) .0 e in (well-formed false x .0 (p .0), well-formed true y .0 (p .1)),
-  λ p. both-false (illFormed false x) (illFormed true y) .1 (well-formed false x .1 (p .0), well-formed true y .1 (p .1)),
+  λ e. let p = or-false (illFormed false x) (illFormed true y) .0 e in (well-formed false x .0 (p .0), well-formed true y .0 (p .1)),
+  λ p. or-false (illFormed false x) (illFormed true y) .1 (well-formed false x .1 (p .0), well-formed true y .1 (p .1)),
 )
 
 same-char : (a b : List ℕ) (k : ℕ) → differAt a b k ≡ false → getD a k 0 ≡ getD b k 0
@@ -102,13 +98,13 @@ same-characters a b = (holds, λ e. rw e (refl-same b))
   where
     holds : differ a b ≡ false → a ≡ b
     holds e =
-        let p = both-false (not (eqb (length a) (length b))) (someOf (differAt a b) (length b)) .0 e in
+        let p = or-false (not (eqb (length a) (length b))) (someOf (differAt a b) (length b)) .0 e in
         let n : length a ≡ length b = eqb-true _ _ (not-false _ (p .0)) in
         ext-getD 0 a b n (λ k h. same-char a b k (none-of (differAt a b) (length b) .0 (p .1) k (omega arith)))
 
     refl-same : (l : List ℕ) → differ l l ≡ false
     refl-same l =
-        both-false (not (eqb (length l) (length l))) (someOf (differAt l l) (length l)) .1 (
+        or-false (not (eqb (length l) (length l))) (someOf (differAt l l) (length l)) .1 (
           simp (eq-eqb (length l) (length l) refl),
           none-of (differAt l l) (length l) .1 (λ k h. same-here l l k refl),
         )

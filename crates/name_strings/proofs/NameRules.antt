@@ -10,7 +10,6 @@ use native.Mathlib.Omega.{arith}
 use lib.Dec.{eqb}
 use Rattle.bigendian.specs.Numbers.{Bytes}
 use Rattle.characters.specs.Strings.{characters}
-use Rattle.name.specs.declared.Refusal as name
 use Rattle.name.specs.declared.Place.{Place}
 use Rattle.name.specs.declared.Place.the-variants.{Nowhere, At}
 use Rattle.name.specs.declared.Verdict.{Verdict}

@@ -8,7 +8,7 @@ use lib.ListN.{length, take, drop}
 use borrow.Author.Tests.{ltb-false}
 use Rattle.name.specs.declared.Text.{Text}
 use Rattle.name.specs.declared.Verdict.the-variants.{Accepted}
-use Rattle.name.specs.Layout.{count, textAt, stringStart, stringLength, textOf}
+use Rattle.name.specs.Layout.{count, textOf}
 use Rattle.name.specs.Acceptance.{stringPasses, checkOf}
 use Rattle.name.proofs.Acceptances.{check-accepted}
 use Rattle.name_strings.specs.Records.{bytesOf}

@@ -17,7 +17,7 @@ use Rattle.name.specs.Acceptable.{Acceptable}
 use Rattle.name.proofs.Layouts.{number-most}
 use Rattle.name.proofs.Theorems.{accepted-exactly-when}
 use Rattle.name_lookup.specs.Answers.{recordOf}
-use Rattle.version_text.specs.Versions.{versionIn, Said, number, refusal, said}
+use Rattle.version_text.specs.Versions.{versionIn, number, refusal, said}
 use Rattle.version_text.specs.declared.Version.{Version}
 use Rattle.version_text.specs.declared.Version.the-variants as text
 use Rattle.version_text.proofs.Rules.{version-right as text-right}
@@ -28,7 +28,7 @@ use Rattle.name_strings.specs.declared.NumberedVersion.the-variants as n
 use Rattle.name_strings.specs.Records.{bytesOf}
 use Rattle.name_strings.specs.Versions.{numberIn, versionOf, saidVersion}
 use Rattle.name_strings.specs.ExactNames.{None}
-use Rattle.name_strings.specs.ExactVersions.{Wide, Narrow, Chosen, WithString, HasNumber, NoVersion, LacksNumber, VersionRight}
+use Rattle.name_strings.specs.ExactVersions.{Wide, Narrow, Chosen, HasNumber, NoVersion, LacksNumber, VersionRight}
 use Rattle.name_strings.proofs.VersionLaws.{version-refused, version-wide, version-narrow, version-neither}
 use Rattle.name_strings.proofs.Finds.{find-has, find-at, find-none}
 

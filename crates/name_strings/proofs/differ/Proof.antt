@@ -60,7 +60,9 @@ loop-again : tie.Need-loop-again Inv-loop μ-loop
 loop-again c = (omega arith, some-more _ _ (c .before .before .before .before .loop .inv .1) (same-here _ _ _ (sym (c .before .before .code .ensures) ∙ c .if2 .left ∙ c .before .code2 .ensures)))
 
 returns-3 : tie.Need-returns-3 Inv-loop μ-loop
-returns-3 c = let met : c .before .loop .i ≡ c .before .before .before .before .count .result = omega arith in sym (sized (c .before .before) ∙ rw (← met) (c .before .loop .inv .1))
+returns-3 c =
+    let met : c .before .loop .i ≡ c .before .before .before .before .count .result = omega arith in
+    sym (sized (c .before .before) ∙ rw (← met) (c .before .loop .inv .1))
 
 pub differ-spec : {M : Type 1} → statement M
 differ-spec =

@@ -12,16 +12,24 @@ use Rattle.name_strings.proofs.from_records.Tie as tie
 
 -- each string ends within the table
 first-fits : (c : tie.After-text-of) → c .text-of .result .start + c .text-of .result .len ≤ length (now (c .before .before .args .table))
-first-fits c = let p = c .before .before .pre in text-inside _ _ (c .text-of .ensures) (p .accepted) (p .first)
+first-fits c =
+    let p = c .before .before .pre in
+    text-inside _ _ (c .text-of .ensures) (p .accepted) (p .first)
 
 second-fits : (c : tie.After-text-of2) → c .text-of2 .result .start + c .text-of2 .result .len ≤ length (now (c .before .before .before .args .table))
-second-fits c = let p = c .before .before .before .pre in text-inside _ _ (c .text-of2 .ensures) (p .accepted) (p .second)
+second-fits c =
+    let p = c .before .before .before .pre in
+    text-inside _ _ (c .text-of2 .ensures) (p .accepted) (p .second)
 
 text-of-requires : tie.Need-text-of-requires
-text-of-requires c κs = let p = c .before .pre in record-inside _ (p .accepted) _ (p .first)
+text-of-requires c κs =
+    let p = c .before .pre in
+    record-inside _ (p .accepted) _ (p .first)
 
 text-of-requires-2 : tie.Need-text-of-requires-2
-text-of-requires-2 c κs = let p = c .before .before .pre in record-inside _ (p .accepted) _ (p .second)
+text-of-requires-2 c κs =
+    let p = c .before .before .pre in
+    record-inside _ (p .accepted) _ (p .second)
 
 add-end : tie.Need-add-end
 add-end c = omega (arith, first-fits (c .before .before))
@@ -51,7 +59,9 @@ from-strings-requires : tie.Need-from-strings-requires
 from-strings-requires c κs = search needs
 
 returns : tie.Need-returns
-returns c = let k = c .before .before .before .before .before in rw (part-is _ _ (k .before .text-of .ensures), part-is _ _ (k .text-of2 .ensures), k .before .text-of .ensures) at (c .from-strings .ensures)
+returns c =
+    let k = c .before .before .before .before .before in
+    rw (part-is _ _ (k .before .text-of .ensures), part-is _ _ (k .text-of2 .ensures), k .before .text-of .ensures) at (c .from-strings .ensures)
 
 pub from-records-spec : {M : Type 1} → statement M
 from-records-spec =

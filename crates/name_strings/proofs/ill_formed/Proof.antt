@@ -49,7 +49,11 @@ wrong-count-requires : tie.Need-wrong-count-requires Inv-loop μ-loop
 wrong-count-requires c κs = search needs
 
 returns-2 : tie.Need-returns-2 Inv-loop μ-loop
-returns-2 c = let a = c .before .before .before .before .before .before .args in let even : odd (a .wide) (now (a .text)) ≡ false = cc in let wrong : wrongCount (length (characters (a .wide) (now (a .text)))) ≡ true = cc in sym (ill-count _ _ even wrong)
+returns-2 c =
+    let a = c .before .before .before .before .before .before .args in
+    let even : odd (a .wide) (now (a .text)) ≡ false = cc in
+    let wrong : wrongCount (length (characters (a .wide) (now (a .text)))) ≡ true = cc in
+    sym (ill-count _ _ even wrong)
 
 loop-holds : tie.Need-loop-holds Inv-loop μ-loop
 loop-holds c = (search needs, some-none _)
@@ -73,7 +77,9 @@ loop-again : tie.Need-loop-again Inv-loop μ-loop
 loop-again c = (omega arith, some-more _ _ (c .before .before .before .before .loop .inv .1) (sym (seen (c .before)) ∙ c .if3 .left))
 
 returns-4 : tie.Need-returns-4 Inv-loop μ-loop
-returns-4 c = let met : c .before .loop .i ≡ c .before .before .before .before .count .result = omega arith in sym (sized (c .before .before) ∙ rw (← met) (c .before .loop .inv .1))
+returns-4 c =
+    let met : c .before .loop .i ≡ c .before .before .before .before .count .result = omega arith in
+    sym (sized (c .before .before) ∙ rw (← met) (c .before .loop .inv .1))
 
 pub ill-formed-spec : {M : Type 1} → statement M
 ill-formed-spec =

@@ -38,7 +38,9 @@ enum-known-r : tie.Need-enum-known-r
 enum-known-r c = search needs
 
 returns : tie.Need-returns
-returns c = let e : checkOf (now (c .before .before .before .before .before .args .table)) ≡ Refused (c .before .r .given .0 .0) = cc in sym (name-refused _ e)
+returns c =
+    let e : checkOf (now (c .before .before .before .before .before .args .table)) ≡ Refused (c .before .r .given .0 .0) = cc in
+    sym (name-refused _ e)
 
 enum-told : tie.Need-enum-told
 enum-told c = search needs
@@ -56,7 +58,13 @@ enum-known-second : tie.Need-enum-known-second
 enum-known-second c = search needs
 
 from-records-requires : tie.Need-from-records-requires
-from-records-requires c κs = let k = c .before .before .before .before .before .before .before .before in record { accepted = accepted k; first = record-in (table k) 1 0 0 6 refl (first-at (c .before .before .before)) .0; second = record-in (table k) 3 1 1033 6 refl (second-at c) .0 }
+from-records-requires c κs =
+    let k = c .before .before .before .before .before .before .before .before in
+    record {
+      accepted = accepted k;
+      first = record-in (table k) 1 0 0 6 refl (first-at (c .before .before .before)) .0;
+      second = record-in (table k) 3 1 1033 6 refl (second-at c) .0;
+    }
 
 enum-told-2 : tie.Need-enum-told-2
 enum-told-2 c = search needs
@@ -71,16 +79,25 @@ enum-told-5 : tie.Need-enum-told-5
 enum-told-5 c = search needs
 
 returns-2 : tie.Need-returns-2
-returns-2 c = let k = c .before in c .from-records .ensures ∙ sym (name-both _ (accepted (k .before .before .before .before .before .before .before .before)) (first-at (k .before .before .before)) (second-at k))
+returns-2 c =
+    let k = c .before in
+    c .from-records .ensures ∙ sym (name-both _ (accepted (k .before .before .before .before .before .before .before .before)) (first-at (k .before .before .before)) (second-at k))
 
 returns-3 : tie.Need-returns-3
-returns-3 c = let k = c .before .before in sym (name-first _ (accepted (k .before .before .before .before .before)) (first-at k) (cc))
+returns-3 c =
+    let k = c .before .before in
+    sym (name-first _ (accepted (k .before .before .before .before .before)) (first-at k) (cc))
 
 returns-4 : tie.Need-returns-4
-returns-4 c = let k = c .before .before in let e : recordOf (table (k .before .before .before .before)) 3 1 1033 6 ≡ At (c .enum-told4 .given .0 .0) = cc in sym (name-second _ (accepted (k .before .before .before .before)) (first-none k) e)
+returns-4 c =
+    let k = c .before .before in
+    let e : recordOf (table (k .before .before .before .before)) 3 1 1033 6 ≡ At (c .enum-told4 .given .0 .0) = cc in
+    sym (name-second _ (accepted (k .before .before .before .before)) (first-none k) e)
 
 returns-5 : tie.Need-returns-5
-returns-5 c = let k = c .before .before in sym (name-neither _ (accepted (k .before .before .before .before)) (first-none k) (cc))
+returns-5 c =
+    let k = c .before .before in
+    sym (name-neither _ (accepted (k .before .before .before .before)) (first-none k) (cc))
 
 pub postscript-spec : {M : Type 1} → statement M
 postscript-spec =

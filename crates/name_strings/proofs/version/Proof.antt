@@ -38,7 +38,9 @@ enum-known-r : tie.Need-enum-known-r
 enum-known-r c = search needs
 
 returns : tie.Need-returns
-returns c = let e : checkOf (now (c .before .before .before .before .before .args .table)) ≡ Refused (c .before .r .given .0 .0) = cc in sym (version-refused _ e)
+returns c =
+    let e : checkOf (now (c .before .before .before .before .before .args .table)) ≡ Refused (c .before .r .given .0 .0) = cc in
+    sym (version-refused _ e)
 
 enum-told : tie.Need-enum-told
 enum-told c = search needs
@@ -50,10 +52,14 @@ enum-known-i : tie.Need-enum-known-i
 enum-known-i c = search needs
 
 version-at-requires : tie.Need-version-at-requires
-version-at-requires c κs = let k = c .before .before .before .before in (accepted k, record-in (table k) 3 1 1033 5 refl (wide-at c) .0)
+version-at-requires c κs =
+    let k = c .before .before .before .before in
+    (accepted k, record-in (table k) 3 1 1033 5 refl (wide-at c) .0)
 
 returns-2 : tie.Need-returns-2
-returns-2 c = let k = c .before in c .version-at .ensures ∙ sym (version-wide _ (accepted (k .before .before .before .before)) (wide-at k))
+returns-2 c =
+    let k = c .before in
+    c .version-at .ensures ∙ sym (version-wide _ (accepted (k .before .before .before .before)) (wide-at k))
 
 enum-told-2 : tie.Need-enum-told-2
 enum-told-2 c = search needs
@@ -65,16 +71,22 @@ enum-known-i-2 : tie.Need-enum-known-i-2
 enum-known-i-2 c = search needs
 
 version-at-requires-2 : tie.Need-version-at-requires-2
-version-at-requires-2 c κs = let k = c .before .before .before .before .before .before .before in (accepted k, record-in (table k) 1 0 0 5 refl (narrow-at c) .0)
+version-at-requires-2 c κs =
+    let k = c .before .before .before .before .before .before .before in
+    (accepted k, record-in (table k) 1 0 0 5 refl (narrow-at c) .0)
 
 returns-3 : tie.Need-returns-3
-returns-3 c = let k = c .before in c .version-at2 .ensures ∙ sym (version-narrow _ (accepted (k .before .before .before .before .before .before .before)) (wide-none (k .before .before .before .before)) (narrow-at k))
+returns-3 c =
+    let k = c .before in
+    c .version-at2 .ensures ∙ sym (version-narrow _ (accepted (k .before .before .before .before .before .before .before)) (wide-none (k .before .before .before .before)) (narrow-at k))
 
 enum-told-3 : tie.Need-enum-told-3
 enum-told-3 c = search needs
 
 returns-4 : tie.Need-returns-4
-returns-4 c = let k = c .before .before .before in sym (version-neither _ (accepted (k .before .before .before)) (wide-none k) (cc))
+returns-4 c =
+    let k = c .before .before .before in
+    sym (version-neither _ (accepted (k .before .before .before)) (wide-none k) (cc))
 
 pub version-spec : {M : Type 1} → statement M
 version-spec =

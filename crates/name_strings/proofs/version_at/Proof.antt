@@ -26,7 +26,9 @@ read c = rw (part-is _ _ (c .before .before .before .text-of .ensures)) at (c .v
 
 -- the string ends within the table
 fits : (c : tie.After-text-of) → c .text-of .result .start + c .text-of .result .len ≤ length (now (c .before .before .args .table))
-fits c = let p = c .before .before .pre in text-inside _ _ (c .text-of .ensures) (p .0) (p .1)
+fits c =
+    let p = c .before .before .pre in
+    text-inside _ _ (c .text-of .ensures) (p .0) (p .1)
 
 text-of-requires : tie.Need-text-of-requires
 text-of-requires c κs = record-inside _ (c .before .pre .0) _ (c .before .pre .1)
@@ -58,7 +60,9 @@ returns c =
     rw e
 
 returns-2 : tie.Need-returns-2
-returns-2 c = let e : found (c .before .before) ≡ NoNumber = cc (read (c .before .before)) in rw e
+returns-2 c =
+    let e : found (c .before .before) ≡ NoNumber = cc (read (c .before .before)) in
+    rw e
 
 pub version-at-spec : {M : Type 1} → statement M
 version-at-spec =

@@ -46,7 +46,9 @@ returns-5 : tie.Need-returns-5
 returns-5 c = cc
 
 returns-6 : tie.Need-returns-6
-returns-6 c = let e : c .before .before .before .before .before .args .self ≡ Refused (c .before .before .before .self2 .given .0 .0) = cc in rw (e, c .before .number .ensures, c .place .ensures)
+returns-6 c =
+    let e : c .before .before .before .before .before .args .self ≡ Refused (c .before .before .before .self2 .given .0 .0) = cc in
+    rw (e, c .before .number .ensures, c .place .ensures)
 
 pub said-spec : {M : Type 1} → statement M
 said-spec =

@@ -34,7 +34,9 @@ returns-3 : tie.Need-returns-3
 returns-3 c = cc
 
 returns-4 : tie.Need-returns-4
-returns-4 c = let e : c .before .before .before .before .before .args .self ≡ Refused (c .before .before .before .self2 .given .0 .0) = cc in rw (e, c .before .number .ensures, c .place .ensures)
+returns-4 c =
+    let e : c .before .before .before .before .before .args .self ≡ Refused (c .before .before .before .self2 .given .0 .0) = cc in
+    rw (e, c .before .number .ensures, c .place .ensures)
 
 pub said-spec : {M : Type 1} → statement M
 said-spec =
