@@ -26,11 +26,11 @@ use Rattle.os2_fields.specs.Fields.{rawIn, valueIn, raw, version, valuesOf}
 use Rattle.os2_fields.proofs.Laws.{value-plain}
 use Rattle.os2_fields.proofs.Tiling.{sign-width}
 use Rattle.os2.specs.declared.Question.the-variants.{Field}
-use Rattle.os2.specs.Outcomes.{integer, value, refused, answered, unless, unlessBroken}
+use Rattle.os2.specs.Outcomes.{integer, value, Outcome, refused, answered, unless, unlessBroken}
 use Rattle.os2.specs.Questions.{outOfRange, since, onWhole}
 use Rattle.os2.specs.Asking.{valueOf, ask}
 use Rattle.os2.specs.Settled.{Accepted}
-use Rattle.os2.specs.Writing.{numberFor, fits, codeOf, codeFor, noVersion, misfit, orElse, lowestMisfit, unlessMisfit, valuesFor, write, image, roomAfter, TouchesOnly, InVersion, Gives, ReadsBack, Holds, Rewrites}
+use Rattle.os2.specs.Writing.{numberFor, fits, codeOf, codeFor, noVersion, misfit, orElse, lowestMisfit, unlessMisfit, valuesFor, write, image, whereWritten, roomAfter, TouchesOnly, InVersion, Gives, ReadsBack, Holds, Rewrites}
 use Rattle.os2.proofs.Laws.{le-above}
 use Rattle.os2.proofs.Settling.{laterTest, tells, ask-accepted}
 use Rattle.os2.proofs.Codes.{code-small, value-coded, code-read, fits-read}
@@ -127,11 +127,11 @@ success xs r n = at (noVersion (numberFor xs 0)) refl (ltb r (tableSize (codeFor
 -- the room holds the fields where the writer answers a size, and is what it was where it refuses
 pub room-written : (xs : List ℤ) (r : List ℕ) (n : ℕ) → write xs (length r) ≡ answered n → roomAfter xs r ≡ image (codeFor xs 0) xs r 48
 unfolding roomAfter
-room-written xs r n e = rw e
+room-written xs r n e = ap (λ (o : Outcome ℕ). whereWritten o (image (codeFor xs 0) xs r 48) r) e
 
 pub room-refused : (xs : List ℤ) (r : List ℕ) (n : ℕ) (c : Option ℕ) → write xs (length r) ≡ refused n c → roomAfter xs r ≡ r
 unfolding roomAfter
-room-refused xs r n c e = rw e
+room-refused xs r n c e = ap (λ (o : Outcome ℕ). whereWritten o (image (codeFor xs 0) xs r 48) r) e
 
 -- the version is the number for field 0
 pub code-version : (xs : List ℤ) (v : ℕ) → numberFor xs 0 ≡ pos v → codeFor xs 0 ≡ v

@@ -70,40 +70,6 @@ pub enum Rewritten {
     Unwritten(WriteRefusal),
 }
 
-// Reads the fields of a table's version at level 5 and writes them.
-pub fn rewrite(table: &[u8], room: &mut [u8]) -> Rewritten
-    ensures { λ r. ⌜ (saidRewritten r ≡ rewritten (now (table .entry)) (length (now (room .entry)))) × (now (room .exit) ≡ roomRewritten (now (table .entry)) (now (room .entry))) ⌝ }
-{
-    match os2::check(table, 5) {
-        Checked::Refused(why) => Rewritten::Unread(why),
-        Checked::Accepted => match write(read(table), room) {
-            Written::Size(size) => Rewritten::Size(size),
-            Written::Refused(why) => Rewritten::Unwritten(why),
-        },
-    }
-}
-
-// The whole numbers in the fields that a table's version has, of a table that level 5 accepts; 0 for the other fields.
-fn read(table: &[u8]) -> [i64; 48]
-    requires { ⌜ judged 5 (now table) ≡ accepted ⌝ }
-    ensures { λ r. ⌜ Reading (now (table .entry)) r ⌝ }
-{
-    let fields = os2_fields::entries();
-    let version = os2_fields::word(table, VERSION);
-    let mut numbers: [i64; 48] = [0; 48];
-    let mut k: usize = 0;
-    while k < 48 {
-        let f = fields[k];
-        let since = f.since as u16;
-        if version < since {
-            return numbers;
-        }
-        numbers[k] = os2_fields::value(table, f);
-        k += 1;
-    }
-    numbers
-}
-
 // Writes the table of 48 whole numbers, of which number 0 is the version, and answers its size.
 pub fn write(numbers: [i64; 48], room: &mut [u8]) -> Written
     ensures { λ r. ⌜ (saidWritten r ≡ write numbers (length (now (room .entry)))) × (now (room .exit) ≡ roomAfter numbers (now (room .entry))) ⌝ }
@@ -115,6 +81,19 @@ pub fn write(numbers: [i64; 48], room: &mut [u8]) -> Written
             store(&numbers, version, room);
             Written::Size(size)
         }
+    }
+}
+
+// Reads the fields of a table's version at level 5 and writes them.
+pub fn rewrite(table: &[u8], room: &mut [u8]) -> Rewritten
+    ensures { λ r. ⌜ (saidRewritten r ≡ rewritten (now (table .entry)) (length (now (room .entry)))) × (now (room .exit) ≡ roomRewritten (now (table .entry)) (now (room .entry))) ⌝ }
+{
+    match os2::check(table, 5) {
+        Checked::Refused(why) => Rewritten::Unread(why),
+        Checked::Accepted => match write(read(table), room) {
+            Written::Size(size) => Rewritten::Size(size),
+            Written::Refused(why) => Rewritten::Unwritten(why),
+        },
     }
 }
 
@@ -177,6 +156,31 @@ fn misfits(f: Field, x: i64, version: u32) -> bool
     !fits(f, x)
 }
 
+// Whether a whole number fits a field.
+fn fits(f: Field, x: i64) -> bool
+    requires { ⌜ Sound f ⌝ }
+    ensures { λ r. ⌜ r ≡ fits f x ⌝ }
+{
+    if f.signed {
+        return -32768 <= x && x < 32768;
+    }
+    0 <= x && x < top(f.width)
+}
+
+// One more than the highest number of so many bytes.
+fn top(width: u8) -> i64
+    requires { ⌜ Wide width ⌝ }
+    ensures { λ r. ⌜ r ≡ pos (256 ^ width) ⌝ }
+{
+    if width == 1 {
+        return 256;
+    }
+    if width == 2 {
+        return 65536;
+    }
+    4294967296
+}
+
 // What the value rules look at.
 fn values(numbers: &[i64], version: u32) -> Values
     requires { ⌜ Fitting version (now numbers) ⌝ }
@@ -221,13 +225,24 @@ fn store(numbers: &[i64], version: u32, room: &mut [u8])
     let mut k: usize = 0;
     while k < 48 {
         let f = fields[k];
-        let since = f.since as u32;
-        if version < since {
+        let came = f.since as u32;
+        if version < came {
             return;
         }
         put(room, f, code(f, numbers[k]));
         k += 1;
     }
+}
+
+// What the bytes of a field then make.
+fn code(f: Field, x: i64) -> u32
+    requires { ⌜ Sound f × (fits f x ≡ true) ⌝ }
+    ensures { λ r. ⌜ r ≡ codeOf f x ⌝ }
+{
+    if x < 0 {
+        return (x + 65536) as u32;
+    }
+    x as u32
 }
 
 // Stores a number in a field.
@@ -248,38 +263,23 @@ fn put(room: &mut [u8], f: Field, code: u32)
     bigendian::store_u32(room, at, code);
 }
 
-// What the bytes of a field then make.
-fn code(f: Field, x: i64) -> u32
-    requires { ⌜ Sound f × (fits f x ≡ true) ⌝ }
-    ensures { λ r. ⌜ r ≡ codeOf f x ⌝ }
+// The whole numbers in the fields that a table's version has, of a table that level 5 accepts; 0 for the other fields.
+fn read(table: &[u8]) -> [i64; 48]
+    requires { ⌜ judged 5 (now table) ≡ accepted ⌝ }
+    ensures { λ r. ⌜ Reading (now (table .entry)) r ⌝ }
 {
-    if x < 0 {
-        return (x + 65536) as u32;
+    let fields = os2_fields::entries();
+    let version = os2_fields::word(table, VERSION);
+    let mut numbers: [i64; 48] = [0; 48];
+    let mut k: usize = 0;
+    while k < 48 {
+        let f = fields[k];
+        let since = f.since as u16;
+        if version < since {
+            return numbers;
+        }
+        numbers[k] = os2_fields::value(table, f);
+        k += 1;
     }
-    x as u32
-}
-
-// Whether a whole number fits a field.
-fn fits(f: Field, x: i64) -> bool
-    requires { ⌜ Sound f ⌝ }
-    ensures { λ r. ⌜ r ≡ fits f x ⌝ }
-{
-    if f.signed {
-        return -32768 <= x && x < 32768;
-    }
-    0 <= x && x < top(f.width)
-}
-
-// One more than the highest number of so many bytes.
-fn top(width: u8) -> i64
-    requires { ⌜ Wide width ⌝ }
-    ensures { λ r. ⌜ r ≡ pos (256 ^ width) ⌝ }
-{
-    if width == 1 {
-        return 256;
-    }
-    if width == 2 {
-        return 65536;
-    }
-    4294967296
+    numbers
 }

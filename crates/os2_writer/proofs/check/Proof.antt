@@ -79,7 +79,7 @@ enum-known-rule : tie.Need-enum-known-rule
 enum-known-rule c = search needs
 
 returns-4 : tie.Need-returns-4
-returns-4 c = rw (c .before .before .before .before .before .before .before .version-size .ensures) (judged (c .before .before .before .before) (sym (c .enum-told .given .1) ∙ (c .before .before .judge .ensures ∙ ap verdictOf (c .before .before .before .values .ensures))))
+returns-4 c = ap answered (c .before .before .before .before .before .before .before .version-size .ensures) ∙ judged (c .before .before .before .before) (sym (c .enum-told .given .1) ∙ (c .before .before .judge .ensures ∙ ap verdictOf (c .before .before .before .values .ensures)))
 
 returns-5 : tie.Need-returns-5
 returns-5 c = judged (c .before .before .before .before .before) (sym (c .before .rule .given .1) ∙ (c .before .before .before .judge .ensures ∙ ap verdictOf (c .before .before .before .before .values .ensures)))

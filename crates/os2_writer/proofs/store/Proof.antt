@@ -55,8 +55,8 @@ mul-f c = search needs
 array-copy-out-f : tie.Need-array-copy-out-f Inv-loop μ-loop
 array-copy-out-f c = search needs
 
-cast-since : tie.Need-cast-since Inv-loop μ-loop
-cast-since c = search needs
+cast-came : tie.Need-cast-came Inv-loop μ-loop
+cast-came c = search needs
 
 same-length : tie.Need-same-length Inv-loop μ-loop
 same-length c = search needs
@@ -101,7 +101,7 @@ store-spec =
     loop-holds
     mul-f
     array-copy-out-f
-    cast-since
+    cast-came
     same-length
     returns
     mul-code
