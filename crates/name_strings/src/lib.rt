@@ -90,7 +90,7 @@ impl VersionAnswer {
     }
 }
 
-// The PostScript name of a table.
+// The PostScript name of a table: 21, 22, 23, 24 in this order, else the string of the record (1, 0, 0, 6).
 pub fn postscript(table: &[u8]) -> PostscriptAnswer
     ensures { λ r. ⌜ r ≡ postscriptOf (now (table .entry)) ⌝ }
 {
@@ -111,7 +111,7 @@ pub fn postscript(table: &[u8]) -> PostscriptAnswer
     }
 }
 
-// The version number of a table.
+// The version number of a table, from the record (3, 1, 0x409, 5); only if that is not there, from (1, 0, 0, 5).
 pub fn version(table: &[u8]) -> VersionAnswer
     ensures { λ r. ⌜ r ≡ versionOf (now (table .entry)) ⌝ }
 {
