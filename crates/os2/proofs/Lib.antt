@@ -10,3 +10,4 @@ pub mod Codes
 pub mod Images
 pub mod RoundTrips
 pub mod Refuting
+pub mod WriteSettling

@@ -8,3 +8,4 @@ pub mod Settled
 pub mod Demands
 pub mod Examples
 pub mod Writing
+pub mod WriteSettled
