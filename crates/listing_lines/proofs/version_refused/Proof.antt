@@ -1,0 +1,20 @@
+-- The line is a text with a number behind it.
+-- Assumes nothing.
+use Rattle.listing_lines.specs.Lines.{versionRefused}
+use borrow.Author.Needs.{needs}
+use Rattle.listing_lines.proofs.version_refused.Statement.{statement}
+use Rattle.listing_lines.proofs.version_refused.Tie as tie
+
+slice-aggregate-numbered-line : tie.Need-slice-aggregate-numbered-line
+slice-aggregate-numbered-line c = search needs
+
+numbered-line-requires : tie.Need-numbered-line-requires
+numbered-line-requires c κs = search needs
+
+returns : tie.Need-returns
+unfolding versionRefused
+returns c = c .numbered-line .ensures
+
+pub version-refused-spec : {M : Type 1} → statement M
+version-refused-spec =
+    tie.close (tie.spec slice-aggregate-numbered-line numbered-line-requires returns)
