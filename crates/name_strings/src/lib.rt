@@ -94,9 +94,27 @@ impl VersionAnswer {
 pub fn postscript(table: &[u8]) -> PostscriptAnswer
     ensures { λ r. ⌜ r ≡ postscriptOf (now (table .entry)) ⌝ }
 {
-    if let Verdict::Refused(r) = name::check(table) {
-        return PostscriptAnswer::Refused(r);
+    match name::check(table) {
+        Verdict::Refused(r) => PostscriptAnswer::Refused(r),
+        Verdict::Accepted => accepted_postscript(table),
     }
+}
+
+// The version number of a table, from the record (3, 1, 0x409, 5); only if that is not there, from (1, 0, 0, 5).
+pub fn version(table: &[u8]) -> VersionAnswer
+    ensures { λ r. ⌜ r ≡ versionOf (now (table .entry)) ⌝ }
+{
+    match name::check(table) {
+        Verdict::Refused(r) => VersionAnswer::Refused(r),
+        Verdict::Accepted => accepted_version(table),
+    }
+}
+
+// The PostScript name of an accepted table, for who has checked it.
+pub fn accepted_postscript(table: &[u8]) -> PostscriptAnswer
+    requires { ⌜ checkOf (now table) ≡ Verdict.Accepted ⌝ }
+    ensures { λ r. ⌜ r ≡ postscriptOf (now (table .entry)) ⌝ }
+{
     let first = name_lookup::find(table, 1, 0, 0, 6);
     let second = name_lookup::find(table, 3, 1, 0x409, 6);
     match first {
@@ -111,13 +129,11 @@ pub fn postscript(table: &[u8]) -> PostscriptAnswer
     }
 }
 
-// The version number of a table, from the record (3, 1, 0x409, 5); only if that is not there, from (1, 0, 0, 5).
-pub fn version(table: &[u8]) -> VersionAnswer
+// The version number of an accepted table, for who has checked it.
+pub fn accepted_version(table: &[u8]) -> VersionAnswer
+    requires { ⌜ checkOf (now table) ≡ Verdict.Accepted ⌝ }
     ensures { λ r. ⌜ r ≡ versionOf (now (table .entry)) ⌝ }
 {
-    if let Verdict::Refused(r) = name::check(table) {
-        return VersionAnswer::Refused(r);
-    }
     if let Place::At(i) = name_lookup::find(table, 3, 1, 0x409, 5) {
         return version_at(table, i, true);
     }
