@@ -3,7 +3,7 @@
 ghost use Prim.Native.Nat.{_+_, _≤_};
 ghost use mathlib.Core.Path.{_≡_};
 ghost use mathlib.Core.List.{_++_};
-ghost use lib.ListN.{length, drop};
+ghost use lib.ListN.{length, take, drop};
 ghost use Rattle.characters.specs.Texts.{codes};
 ghost use Rattle.listing_lines.specs.Numerals.{decimal, Put};
 ghost use Rattle.listing_lines.specs.Lines.{lineOf, headLine, recordLine, postscriptLine, postscriptRefused, versionLine, versionRefused, refusedAt, refused, tooLong};
@@ -104,6 +104,26 @@ pub fn too_long() -> Line
     let mut bytes = [0u8; 160];
     let len = put(&mut bytes, 0, b"too long\n");
     Line { bytes, len }
+}
+
+// Puts a line behind the first `at` bytes, and answers where it ends.
+pub fn append(out: &mut [u8], at: usize, line: Line) -> usize
+    requires { ⌜ at + 160 ≤ length (now out) ⌝ }
+    ensures { λ r. ⌜ Put (now (out .entry)) at (now (out .exit)) r 160 (lineOf line) ⌝ }
+{
+    let bytes = line.bytes;
+    put_first(out, at, bytes, line.len)
+}
+
+// Puts the first `len` of 160 bytes behind the first `at`, and answers where they end.
+fn put_first(out: &mut [u8], at: usize, bytes: [u8; 160], len: usize) -> usize
+    requires { ⌜ at + 160 ≤ length (now out) ⌝ }
+    ensures { λ r. ⌜ Put (now (out .entry)) at (now (out .exit)) r 160 (take len bytes) ⌝ }
+{
+    if len < 160 {
+        return put(out, at, &bytes[..len]);
+    }
+    put(out, at, &bytes)
 }
 
 // A line of a text and a number.
