@@ -39,14 +39,14 @@ pub fn record_line(
     ensures { λ r. ⌜ lineOf r ≡ recordLine i platform encoding language name offset len ⌝ }
 {
     let mut bytes = [0u8; 160];
-    let a = put_numbered(&mut bytes, 0, b"", i);
-    let b = put_numbered(&mut bytes, a, b" ", platform);
-    let c = put_numbered(&mut bytes, b, b" ", encoding);
-    let d = put_numbered(&mut bytes, c, b" ", language);
-    let e = put_numbered(&mut bytes, d, b" ", name);
-    let f = put_numbered(&mut bytes, e, b" ", offset);
-    let g = put_numbered(&mut bytes, f, b" ", len);
-    let len = put(&mut bytes, g, b"\n");
+    let number_end = put_numbered(&mut bytes, 0, b"", i);
+    let platform_end = put_numbered(&mut bytes, number_end, b" ", platform);
+    let encoding_end = put_numbered(&mut bytes, platform_end, b" ", encoding);
+    let language_end = put_numbered(&mut bytes, encoding_end, b" ", language);
+    let name_end = put_numbered(&mut bytes, language_end, b" ", name);
+    let offset_end = put_numbered(&mut bytes, name_end, b" ", offset);
+    let length_end = put_numbered(&mut bytes, offset_end, b" ", len);
+    let len = put(&mut bytes, length_end, b"\n");
     Line { bytes, len }
 }
 
