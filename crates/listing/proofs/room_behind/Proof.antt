@@ -1,0 +1,27 @@
+-- Where less than a line is left, the next line goes to the start.
+-- Assumes nothing.
+use mathlib.Core.Path.{sym}
+use native.Mathlib.Omega.{arith}
+use lib.Seq.{length-take-le}
+use borrow.Author.Needs.{needs}
+use Rattle.listing.proofs.room_behind.Statement.{statement}
+use Rattle.listing.proofs.room_behind.Tie as tie
+
+sub-if1 : tie.Need-sub-if1
+sub-if1 c = search needs
+
+slice-aggregate-write : tie.Need-slice-aggregate-write
+slice-aggregate-write c = sym (length-take-le _ _ (omega arith))
+
+write-requires : tie.Need-write-requires
+write-requires c κs = search needs
+
+returns : tie.Need-returns
+returns c = search needs
+
+returns-2 : tie.Need-returns-2
+returns-2 c = search needs
+
+pub room-behind-spec : {M : Type 1} → statement M
+room-behind-spec =
+    tie.close (tie.spec sub-if1 slice-aggregate-write write-requires returns returns-2)
