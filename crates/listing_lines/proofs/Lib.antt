@@ -1,2 +1,2 @@
 pub mod Pieces
-pub mod Rows
+pub mod Reading

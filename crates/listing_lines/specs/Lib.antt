@@ -1,3 +1,2 @@
 pub mod Numerals
 pub mod Lines
-pub mod Examples

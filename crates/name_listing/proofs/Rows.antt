@@ -1,6 +1,7 @@
--- Document 01's two listings, by computation.
+-- Document 01's listings, by computation.
 -- Assumes nothing.
 use mathlib.Core.Path.{_≡_, refl}
+use mathlib.Core.List.{map}
 use Rattle.bigendian.specs.Numbers.{number}
 use Rattle.characters.specs.Strings.{char, odd}
 use Rattle.charset.specs.Allowed.{allowed}
@@ -13,10 +14,10 @@ use Rattle.name_strings.specs.Forms.{someOf, wrongCount, otherAt, illFormed, di
 use Rattle.name_strings.specs.Names.{eitherIll, fromStrings, fromBoth, postscriptOf}
 use Rattle.name_strings.specs.Versions.{fromRecords, versionOf}
 use Rattle.listing_lines.specs.Numerals.{digits, decimal}
-use Rattle.listing_lines.specs.Lines.{headLine, recordLine, postscriptLine, versionRefused, refusedAt}
+use Rattle.listing_lines.specs.Lines.{headLine, recordLine, postscriptLine, versionRefused, refusedAt, refused}
 use Rattle.name_listing.specs.Listings.{recordTexts, listingOf}
-use Rattle.name_listing.specs.Examples.{twoRecords, equalKeys, twoRecordsListed, equalKeysListed}
+use Rattle.name_listing.specs.Examples.{tables, listings}
 
-pub listings-hold : (listingOf twoRecords ≡ twoRecordsListed) × (listingOf equalKeys ≡ equalKeysListed)
-unfolding number char odd allowed tagCount tagsAt textOf keyOf _then_ when firstOf tooShort otherFormat recordsPass tagsPass misplaced stringPasses forbidden languageRefused notAbove layoutFault recordFault tagFault checkOf recordOf scan bytesOf someOf wrongCount otherAt illFormed differAt differ eitherIll fromStrings fromBoth postscriptOf fromRecords versionOf digits decimal headLine recordLine postscriptLine versionRefused refusedAt recordTexts listingOf
-listings-hold = (refl, refl)
+pub listings-hold : map listingOf tables ≡ listings
+unfolding number char odd allowed tagCount tagsAt textOf keyOf _then_ when firstOf tooShort otherFormat recordsPass tagsPass misplaced stringPasses forbidden languageRefused notAbove layoutFault recordFault tagFault checkOf recordOf scan bytesOf someOf wrongCount otherAt illFormed differAt differ eitherIll fromStrings fromBoth postscriptOf fromRecords versionOf digits decimal headLine recordLine postscriptLine versionRefused refusedAt refused recordTexts listingOf
+listings-hold = refl

@@ -1,4 +1,4 @@
--- Document 01, "it writes": its two tables and what is listed of each.
+-- Document 01, "it writes": its tables and what is listed of each.
 use Prim.Native.Nat.{ℕ}
 use mathlib.Core.List.{List, [], _∷_}
 use Rattle.characters.specs.Texts.{codes}
@@ -13,9 +13,17 @@ abbrev pub equalKeys : List ℕ
 equalKeys =
     0 ∷ 0 ∷ 0 ∷ 2 ∷ 0 ∷ 30 ∷ 0 ∷ 1 ∷ 0 ∷ 0 ∷ 0 ∷ 0 ∷ 0 ∷ 6 ∷ 0 ∷ 2 ∷ 0 ∷ 0 ∷ 0 ∷ 1 ∷ 0 ∷ 0 ∷ 0 ∷ 0 ∷ 0 ∷ 6 ∷ 0 ∷ 4 ∷ 0 ∷ 2 ∷ 65 ∷ 98 ∷ 0 ∷ 65 ∷ 0 ∷ 98 ∷ []
 
-abbrev pub twoRecordsListed : List ℕ
-twoRecordsListed =
-    codes "name format 0 records 2 storage 6\n0 1 0 0 6 0 2\n1 3 1 1033 6 2 4\npostscript Ab\nversion refused 20\n"
+-- a format that is neither 0 nor 1
+abbrev pub otherFormat : List ℕ
+otherFormat = 0 ∷ 2 ∷ 0 ∷ 0 ∷ 0 ∷ 6 ∷ []
 
-abbrev pub equalKeysListed : List ℕ
-equalKeysListed = codes "refused 17 at 1\n"
+abbrev pub tables : List (List ℕ)
+tables = twoRecords ∷ equalKeys ∷ otherFormat ∷ []
+
+-- "it writes", "it writes the one line", "Without a place"
+abbrev pub listings : List (List ℕ)
+listings =
+    codes "name format 0 records 2 storage 6\n0 1 0 0 6 0 2\n1 3 1 1033 6 2 4\npostscript Ab\nversion refused 20\n"
+    ∷ codes "refused 17 at 1\n"
+    ∷ codes "refused 11\n"
+    ∷ []
