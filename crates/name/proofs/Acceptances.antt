@@ -8,11 +8,12 @@ use mathlib.Core.Bool.{Bool, true, false, _||_}
 use native.Mathlib.Decide.{decLt, ℕ-discrete}
 use native.Mathlib.Omega.{arith}
 use lib.ListN.{length}
+use borrow.Author.Count.{below-more}
 use borrow.Author.Tests.{ltb-false, leb-false, lt-ltb, le-ltb, le-leb, lt-leb, eq-eqb, ne-eqb}
 use Rattle.name.specs.declared.Verdict.the-variants.{Accepted}
-use Rattle.name.specs.Layout.{format, count, recordAt, platform, language, textAt, recordsEnd, tagCount, tagAt, tagsEnd, keyOf}
+use Rattle.name.specs.Layout.{format, count, recordAt, platform, language, textAt, recordsEnd, tagCount, tagAt, tagsEnd, stringEnd, keyOf}
 use Rattle.name.specs.Acceptance.{_then_, firstOf, tooShort, otherFormat, recordsPass, tagsPass, misplaced, stringPasses, forbidden, languageRefused, notAbove, layoutFault, recordFault, tagFault, checkOf}
-use Rattle.name.specs.Steps.{Framed, FitAndRise, LanguagesFit}
+use Rattle.name.specs.Steps.{Framed, Faultless}
 use Rattle.name.proofs.Firsts.{passed, then-accepted, when-accepted, first-accepted}
 use Rattle.name.proofs.Layouts.{format-0}
 
@@ -172,11 +173,31 @@ language-below t i h = side (decLt (language t i) 32768) (ℕ-discrete (format t
     side (no l) (no f) = let g : 32768 ≤ language t i = omega arith in language-1 _ _ _ _ f g .1 h
 
 module _ (t : List ℕ) where
-  -- both quick passes together leave no record's fault
-  pub quick : (n : ℕ) → FitAndRise t n → LanguagesFit t n → firstOf (recordFault t) n ≡ Accepted
-  quick n f g =
-      first-accepted _ _ .1 (λ i h. record-accepted t i .1 (record { string = f i h .0; language = g i h; order = f i h .1 }))
+  -- no 17 at the first n records
+  abbrev pub Rise : ℕ → Type 0
+  Rise n = (i : ℕ) → i < n → notAbove t i ≡ false
 
+  -- none of 15 and 18 at the first n records
+  abbrev pub FitAndSpeak : ℕ → Type 0
+  FitAndSpeak n = (i : ℕ) → i < n → (stringPasses t (textAt i) ≡ false) × (languageRefused t i ≡ false)
+
+  -- one record more, if there is one
+  pub fit-more : (n : ℕ) → FitAndSpeak (n - 1) → (0 < n → (stringPasses t (textAt (n - 1)) ≡ false) × (languageRefused t (n - 1) ≡ false)) → FitAndSpeak n
+  fit-more zero f g = λ i h. absurd (omega arith)
+  fit-more (suc n) f g = λ i h.
+      let e : suc n - 1 ≡ n = omega arith in
+      below-more (λ k. (stringPasses t (textAt k) ≡ false) × (languageRefused t k ≡ false)) n (rw e at f) (rw e at (g (omega arith))) i (omega arith)
+
+  -- both together leave no record's fault
+  pub faultless : (n : ℕ) → Rise n → FitAndSpeak n → Faultless t n
+  faultless n f g i h = record-accepted t i .1 (record { string = g i h .0; language = g i h .1; order = f i h })
+
+  -- a string that keeps within the storage's room
+  pub string-fits : (at : ℕ) → stringEnd t at ≤ length t → stringPasses t at ≡ false
+  unfolding stringPasses
+  string-fits at h = le-ltb _ _ h
+
+module _ (t : List ℕ) where
   -- ---- what an accepted table holds
   module _ (e : checkOf t ≡ Accepted) where
     pub accepted-framed : Framed t

@@ -1,14 +1,14 @@
 -- A key's number stands for its four numbers, in equality and in order, since each is below 65,536.
 -- Assumes nothing.
-use Prim.Native.Nat.{ℕ, _+_, _<_}
+use Prim.Native.Nat.{ℕ, _+_, _/_, _%_, _<_}
 use mathlib.Core.Path.{_≡_}
 use mathlib.Core.Logic.{inl, inr, ⊎-elim, _↔_}
 use mathlib.Core.List.{List}
 use native.Mathlib.Decide.{decLt}
 use native.Mathlib.Omega.{arith}
 use Rattle.bigendian.specs.Numbers.{number, Bytes}
-use Rattle.bigendian.proofs.Laws.{number-fits}
-use Rattle.name.specs.Layout.{keyNumber, keyOf, recordAt}
+use Rattle.bigendian.proofs.Laws.{number-4, number-fits}
+use Rattle.name.specs.Layout.{keyNumber, keyOf, language, recordAt}
 use Rattle.name.specs.Acceptable.{Lexical, KeyBelow}
 
 -- a 16-bit number of a table
@@ -39,3 +39,12 @@ key-below t b i j =
     key-order
     (word-lt t b (recordAt i + 2)) (word-lt t b (recordAt i + 4)) (word-lt t b (recordAt i + 6))
     (word-lt t b (recordAt j + 2)) (word-lt t b (recordAt j + 4)) (word-lt t b (recordAt j + 6))
+
+-- the language stands third in a key
+pub key-language : (t : List ℕ) → Bytes t → (i : ℕ) → keyOf t i / 65536 % 65536 ≡ language t i
+unfolding keyOf
+key-language t b i = omega (arith, word-lt t b (recordAt i + 4), word-lt t b (recordAt i + 6))
+
+-- a string's length and offset are the halves of one number
+pub text-halves : (t : List ℕ) → Bytes t → (at : ℕ) → (number 4 t at / 65536 ≡ number 2 t at) × (number 4 t at % 65536 ≡ number 2 t (at + 2))
+text-halves t b at = (omega (arith, number-4 t at, word-lt t b (at + 2)), omega (arith, number-4 t at, word-lt t b (at + 2)))

@@ -2,13 +2,14 @@
 // Document 01, "The 'name' layout", and the refusals 10 to 18 in their order. It relies on big-endian reads alone.
 ghost use mathlib.Core.Path.{_≡_};
 ghost use mathlib.Core.Bool.{true, false};
-ghost use Prim.Native.Nat.{_+_, _*_, _≤_, _<_};
+ghost use Prim.Native.Nat.{_+_, _*_, _/_, _%_, _≤_, _<_};
 ghost use lib.ListN.{length};
 ghost use Rattle.name.specs.Layout.{format, count, storage, recordAt, recordsEnd, tagCount, tagsAt, keyNumber, keyOf, textOf};
 ghost use Rattle.name.specs.Refusals.{numberOf, placeOf};
 ghost use Rattle.name.specs.Acceptance.{firstOf, tooShort, otherFormat, recordsPass, tagsPass, misplaced, stringPasses, forbidden, languageRefused, notAbove, layoutFault, recordFault, tagFault, checkOf};
-ghost use Rattle.name.specs.Steps.{Framed, FitAndRise, LanguagesFit};
+ghost use Rattle.name.specs.Steps.{Framed, Faultless};
 use bigendian::read_u16;
+use bigendian::read_u32;
 
 // The bytes of the format, the count and the storage start.
 const HEADER_SIZE: usize = 6;
@@ -144,39 +145,59 @@ fn layout_fault(table: &[u8]) -> Verdict
     Verdict::Accepted
 }
 
-// The first fault of the records: none where both quick passes hold, else the exact pass says.
+// The first fault of the records: none where the quick pass finds none, else the exact pass says.
 fn record_faults(table: &[u8]) -> Verdict
     requires { ⌜ Framed (now table) ⌝ }
     ensures { λ r. ⌜ r ≡ firstOf (recordFault (now (table .entry))) (count (now (table .entry))) ⌝ }
 {
-    if fit_and_rise(table) {
-        if languages_below(table) {
-            return Verdict::Accepted;
-        }
+    if surely_sound(table) {
+        return Verdict::Accepted;
     }
     exact_faults(table)
 }
 
-// Whether each record's string ends within the table and each key is above the one before it.
-fn fit_and_rise(table: &[u8]) -> bool
+// Whether each key is above the one before it, each string ends within the table and each language is below 0x8000 plus the number of tags, which no
+// format and no platform refuses. What a turn reads of a record the next turn looks at, so that each read stays one load of a whole word.
+fn surely_sound(table: &[u8]) -> bool
     requires { ⌜ Framed (now table) ⌝ }
-    ensures { λ r. ⌜ (r ≡ true → FitAndRise (now (table .entry)) (count (now (table .entry)))) ⌝ }
+    ensures { λ r. ⌜ (r ≡ true → Faultless (now (table .entry)) (count (now (table .entry)))) ⌝ }
 {
+    let start = storage_start(table) as usize;
+    if table.len() < start {
+        return false;
+    }
+    let room = table.len() - start;
+    let limit = 0x8000 + tag_count(table) as u64;
     let count = record_count(table) as usize;
     let mut last = 0;
+    let mut text = 0;
     let mut i = 0;
     while i < count {
-        if string_passes(table, HEADER_SIZE + RECORD_SIZE * i + LENGTH) {
+        if doubtful(last, text, limit, room) {
             return false;
         }
         let here = key_at(table, i);
         if sinks(i, last, here) {
             return false;
         }
+        text = read_u32(table, HEADER_SIZE + RECORD_SIZE * i + LENGTH);
         last = here;
         i += 1;
     }
+    if doubtful(last, text, limit, room) {
+        return false;
+    }
     true
+}
+
+// Whether the language in a key is not below a limit, or a string's length and offset, read as one number, do not keep within some room.
+fn doubtful(key: u64, text: u32, limit: u64, room: usize) -> bool
+    ensures { λ r. ⌜ (r ≡ false → (key / 65536 % 65536 < limit) × (text / 65536 + text % 65536 ≤ room)) ⌝ }
+{
+    if limit <= key / 65536 % 65536 {
+        return true;
+    }
+    room < (text / 65536 + text % 65536) as usize
 }
 
 // Whether record i, but for the first, has a key that is not above the one before it.
@@ -184,23 +205,6 @@ fn sinks(i: usize, last: u64, here: u64) -> bool
     ensures { λ r. ⌜ (r ≡ false → 0 < i → last < here) ⌝ }
 {
     0 < i && here <= last
-}
-
-// Whether each language is below 0x8000 plus the number of tags, which no format and no platform refuses.
-fn languages_below(table: &[u8]) -> bool
-    requires { ⌜ Framed (now table) ⌝ }
-    ensures { λ r. ⌜ (r ≡ true → LanguagesFit (now (table .entry)) (count (now (table .entry)))) ⌝ }
-{
-    let count = record_count(table) as usize;
-    let limit = 0x8000 + tag_count(table) as u32;
-    let mut i = 0;
-    while i < count {
-        if limit <= read_u16(table, HEADER_SIZE + RECORD_SIZE * i + LANGUAGE) as u32 {
-            return false;
-        }
-        i += 1;
-    }
-    true
 }
 
 // The first fault of the records, by looking at each in turn.

@@ -1,19 +1,16 @@
--- Where both quick passes hold no record has a fault; else the exact pass decides.
+-- Where the quick pass finds no fault no record has one; else the exact pass decides.
 -- Assumes nothing.
 use mathlib.Core.Path.{sym}
 use borrow.Author.Needs.{needs}
-use Rattle.name.proofs.Acceptances.{quick}
+use Rattle.name.proofs.Firsts.{first-accepted}
 use Rattle.name.proofs.record_faults.Statement.{statement}
 use Rattle.name.proofs.record_faults.Tie as tie
 
-fit-and-rise-requires : tie.Need-fit-and-rise-requires
-fit-and-rise-requires c κs = search needs
-
-languages-below-requires : tie.Need-languages-below-requires
-languages-below-requires c κs = search needs
+surely-sound-requires : tie.Need-surely-sound-requires
+surely-sound-requires c κs = search needs
 
 returns : tie.Need-returns
-returns c = sym (quick _ _ (c .before .before .before .fit-and-rise .ensures (c .before .before .if1 .taken)) (c .before .languages-below .ensures (c .if2 .taken)))
+returns c = sym (first-accepted _ _ .1 (c .before .surely-sound .ensures (c .if1 .taken)))
 
 exact-faults-requires : tie.Need-exact-faults-requires
 exact-faults-requires c κs = search needs
@@ -25,8 +22,7 @@ pub record-faults-spec : {M : Type 1} → statement M
 record-faults-spec =
     tie.close
     (tie.spec
-    fit-and-rise-requires
-    languages-below-requires
+    surely-sound-requires
     returns
     exact-faults-requires
     returns-2)
