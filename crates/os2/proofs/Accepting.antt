@@ -188,7 +188,7 @@ module _ (L : ℕ) (b : List ℕ) (told : judged L b ≡ accepted) where
   pub open-lies : (k : ℕ) → k < 48 → fieldOf k .since ≤ L → fieldOf k .since ≤ version b → Lies b (fieldOf k)
   open-lies k h p q = lies b k (fieldOf k .since) h (le-refl (fieldOf k .since)) (open-sized (fieldOf k .since) p q)
 
-  pub open-word : (k : ℕ) → k < 48 → fieldOf k .width ≡ 2 → fieldOf k .since ≤ L → fieldOf k .since ≤ version b → Word b k
+  pub open-word : (k : ℕ) → k < 48 → fieldOf k .width ≡ 2 → fieldOf k .since ≤ L → fieldOf k .since ≤ version b → Word b (fieldOf k)
   open-word k h w p q = word b k (fieldOf k .since) h w (le-refl (fieldOf k .since)) (open-sized (fieldOf k .since) p q)
 
   pub open-rules : version b ≤ L → Rules (valuesOf b)

@@ -22,13 +22,12 @@ use level::Level;
 use level::LevelAnswer;
 use os2_fields::CODE_PAGES;
 use os2_fields::FSSELECTION;
-use os2_fields::FSTYPE;
-use os2_fields::LOWER_SIZE;
+use os2_fields::FSTYPE_ENTRY;
+use os2_fields::LOWER_SIZE_ENTRY;
 use os2_fields::UNICODE_RANGES;
-use os2_fields::UPPER_SIZE;
-use os2_fields::VERSION;
-use os2_fields::WEIGHT;
-use os2_fields::WIDTH;
+use os2_fields::UPPER_SIZE_ENTRY;
+use os2_fields::WEIGHT_ENTRY;
+use os2_fields::WIDTH_ENTRY;
 use os2_rules::Verdict;
 use os2_style::EmbeddingRights;
 use os2_style::OpticalSizes;
@@ -352,7 +351,7 @@ fn version_of(table: &[u8]) -> u32
     requires { ⌜ 2 ≤ length (now table) ⌝ }
     ensures { λ r. ⌜ r ≡ version (now (table .entry)) ⌝ }
 {
-    os2_fields::word(table, VERSION) as u32
+    os2_fields::version(table) as u32
 }
 
 // The size for the smaller of a version and a level.
@@ -419,7 +418,7 @@ fn rights_answer(table: &[u8], level: u32) -> RightsAnswer
     if above(version_of(table), level) {
         return RightsAnswer::NotKnown;
     }
-    RightsAnswer::Value(os2_style::rights_of(os2_fields::word(table, FSTYPE)))
+    RightsAnswer::Value(os2_style::rights_of(os2_fields::word(table, FSTYPE_ENTRY)))
 }
 
 // The style position of an accepted table.
@@ -431,8 +430,8 @@ fn style_answer(table: &[u8], level: u32) -> StyleAnswer
         return StyleAnswer::NotKnown;
     }
     StyleAnswer::Value(os2_style::position_of(
-        os2_fields::word(table, WEIGHT),
-        os2_fields::word(table, WIDTH),
+        os2_fields::word(table, WEIGHT_ENTRY),
+        os2_fields::word(table, WIDTH_ENTRY),
     ))
 }
 
@@ -452,7 +451,7 @@ fn optical_answer(table: &[u8], level: u32) -> OpticalAnswer
         return OpticalAnswer::Absent;
     }
     OpticalAnswer::Value(os2_style::sizes_of(
-        os2_fields::word(table, LOWER_SIZE),
-        os2_fields::word(table, UPPER_SIZE),
+        os2_fields::word(table, LOWER_SIZE_ENTRY),
+        os2_fields::word(table, UPPER_SIZE_ENTRY),
     ))
 }

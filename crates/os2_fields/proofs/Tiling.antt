@@ -188,15 +188,15 @@ lies b k v h s l =
     }
 
 -- the same of a field of two bytes
-pub word : (b : List ℕ) (k v : ℕ) → k < 48 → fieldOf k .width ≡ 2 → fieldOf k .since ≤ v → tableSize v ≤ length b → Word b k
-word b k v h w s l = record { field = h; lies = lies b k v h s l; two = w }
+pub word : (b : List ℕ) (k v : ℕ) → k < 48 → fieldOf k .width ≡ 2 → fieldOf k .since ≤ v → tableSize v ≤ length b → Word b (fieldOf k)
+word b k v h w s l = record { lies = lies b k v h s l; two = w }
 
 -- two bytes are enough for the version
-pub version-word : (b : List ℕ) → 2 ≤ length b → Word b 0
+pub version-word : (b : List ℕ) → 2 ≤ length b → Word b (fieldOf 0)
 unfolding fieldOf catalogue
 version-word b h =
     let s : Sound 0 = fields 0 (omega arith) in
-    record { field = omega arith; lies = record { inside = h; wide = s .width; signs = s .sign }; two = refl }
+    record { lies = record { inside = h; wide = s .width; signs = s .sign }; two = refl }
 
 -- the Unicode ranges came in with version 0, the code pages with version 1
 pub range-since : (n : ℕ) → n < 4 → fieldOf (26 + n) .since ≤ 0

@@ -30,8 +30,8 @@ abbrev pub version : List ℕ → ℕ
 version b = raw b 0
 
 -- an optical size of a version that has it
-abbrev pub opticalSize : List ℕ → ℕ → ℕ
-opticalSize b k = cond (ltb (version b) 5) 0 (raw b k)
+abbrev pub opticalSize : List ℕ → Field → ℕ
+opticalSize b f = cond (ltb (version b) 5) 0 (rawIn b f)
 
 -- what the value rules look at: version, weight, width, fsType, fsSelection and the optical sizes
 unfoldable pub valuesOf : List ℕ → Values
@@ -42,6 +42,6 @@ valuesOf b =
       width = raw b 3;
       fstype = raw b 4;
       fsselection = raw b 31;
-      lower = opticalSize b 46;
-      upper = opticalSize b 47;
+      lower = opticalSize b (fieldOf 46);
+      upper = opticalSize b (fieldOf 47);
     }

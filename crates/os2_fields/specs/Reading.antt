@@ -1,5 +1,5 @@
 -- What the functions that read a field ask of the table and of the field.
-use Prim.Native.Nat.{ℕ, _+_, _<_, _≤_}
+use Prim.Native.Nat.{ℕ, _+_, _≤_}
 use mathlib.Core.Path.{_≡_}
 use mathlib.Core.Logic.{_⊎_}
 use mathlib.Core.Bool.{true}
@@ -7,7 +7,6 @@ use mathlib.Core.List.{List}
 use lib.ListN.{length}
 use Rattle.level.specs.Sizes.{tableSize}
 use Rattle.os2_fields.specs.declared.catalogue.Field.{Field}
-use Rattle.os2_fields.specs.Catalogue.{fieldOf}
 use Rattle.os2_fields.specs.Fields.{version}
 
 -- a field lies within the table, is 1, 2 or 4 bytes wide, and 2 where it is signed
@@ -16,15 +15,13 @@ pub record Lies (b : List ℕ) (f : Field) : Type 0 where
   pub wide : (f .width ≡ 1) ⊎ ((f .width ≡ 2) ⊎ (f .width ≡ 4))
   pub signs : f .signed ≡ true → f .width ≡ 2
 
--- field k is one of two bytes that lies within the table
-pub record Word (b : List ℕ) (k : ℕ) : Type 0 where
-  pub field : k < 48
-  pub lies : Lies b (fieldOf k)
-  pub two : fieldOf k .width ≡ 2
+-- a field of two bytes that lies within the table
+pub record Word (b : List ℕ) (f : Field) : Type 0 where
+  pub lies : Lies b f
+  pub two : f .width ≡ 2
 
--- field k is one of two bytes that came in with version 5, and the table has the size of its version
-pub record OpticalField (b : List ℕ) (k : ℕ) : Type 0 where
+-- a field of two bytes that lies within the size of version 5, and a table that has the size of its version
+pub record OpticalField (b : List ℕ) (f : Field) : Type 0 where
   pub sized : tableSize (version b) ≤ length b
-  pub field : k < 48
-  pub two : fieldOf k .width ≡ 2
-  pub five : fieldOf k .since ≤ 5
+  pub inside : f .offset + 2 ≤ tableSize 5
+  pub two : f .width ≡ 2

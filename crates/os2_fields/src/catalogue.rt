@@ -12,7 +12,7 @@ pub struct Field {
     pub since: u8,
 }
 
-// Fields that the reader uses by name.
+// Fields that the reader uses by name: their numbers.
 pub const VERSION: usize = 0;
 
 pub const WEIGHT: usize = 2;
@@ -31,6 +31,56 @@ pub const LOWER_SIZE: usize = 46;
 
 pub const UPPER_SIZE: usize = 47;
 
+// And their entries, which the compiler puts in place where they are used.
+pub const VERSION_ENTRY: Field = Field {
+    offset: 0,
+    width: 2,
+    signed: false,
+    since: 0,
+};
+
+pub const WEIGHT_ENTRY: Field = Field {
+    offset: 4,
+    width: 2,
+    signed: false,
+    since: 0,
+};
+
+pub const WIDTH_ENTRY: Field = Field {
+    offset: 6,
+    width: 2,
+    signed: false,
+    since: 0,
+};
+
+pub const FSTYPE_ENTRY: Field = Field {
+    offset: 8,
+    width: 2,
+    signed: false,
+    since: 0,
+};
+
+pub const FSSELECTION_ENTRY: Field = Field {
+    offset: 62,
+    width: 2,
+    signed: false,
+    since: 0,
+};
+
+pub const LOWER_SIZE_ENTRY: Field = Field {
+    offset: 96,
+    width: 2,
+    signed: false,
+    since: 5,
+};
+
+pub const UPPER_SIZE_ENTRY: Field = Field {
+    offset: 98,
+    width: 2,
+    signed: false,
+    since: 5,
+};
+
 // Field number k.
 pub fn entry(k: usize) -> Field
     requires { ⌜ k < 48 ⌝ }
@@ -48,36 +98,16 @@ pub fn entries() -> [Field; 48]
 
 const FIELDS: [Field; 48] = [
     // 0 version, 1 average width, 2 weight, 3 width, 4 fsType
-    Field {
-        offset: 0,
-        width: 2,
-        signed: false,
-        since: 0,
-    },
+    VERSION_ENTRY,
     Field {
         offset: 2,
         width: 2,
         signed: true,
         since: 0,
     },
-    Field {
-        offset: 4,
-        width: 2,
-        signed: false,
-        since: 0,
-    },
-    Field {
-        offset: 6,
-        width: 2,
-        signed: false,
-        since: 0,
-    },
-    Field {
-        offset: 8,
-        width: 2,
-        signed: false,
-        since: 0,
-    },
+    WEIGHT_ENTRY,
+    WIDTH_ENTRY,
+    FSTYPE_ENTRY,
     // 5 to 8 subscript x size, y size, x offset, y offset; 9 to 12 superscript, same
     Field {
         offset: 10,
@@ -240,12 +270,7 @@ const FIELDS: [Field; 48] = [
         since: 0,
     },
     // 31 fsSelection, 32 first char, 33 last char
-    Field {
-        offset: 62,
-        width: 2,
-        signed: false,
-        since: 0,
-    },
+    FSSELECTION_ENTRY,
     Field {
         offset: 64,
         width: 2,
@@ -334,16 +359,6 @@ const FIELDS: [Field; 48] = [
         since: 2,
     },
     // 46, 47 lower, upper optical size
-    Field {
-        offset: 96,
-        width: 2,
-        signed: false,
-        since: 5,
-    },
-    Field {
-        offset: 98,
-        width: 2,
-        signed: false,
-        since: 5,
-    },
+    LOWER_SIZE_ENTRY,
+    UPPER_SIZE_ENTRY,
 ];

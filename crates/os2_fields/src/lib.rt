@@ -7,21 +7,28 @@ ghost use lib.ListN.{length};
 ghost use lib.IntN.{pos};
 ghost use Rattle.level.specs.Sizes.{tableSize};
 ghost use Rattle.os2_rules.specs.Bits.{bit};
-ghost use Rattle.os2_fields.specs.Fields.{rawIn, raw, version, signedOf, valueIn, opticalSize, valuesOf};
+ghost use Rattle.os2_fields.specs.Fields.{rawIn, version, signedOf, valueIn, opticalSize, valuesOf};
 ghost use Rattle.os2_fields.specs.Reading.{Lies, Word, OpticalField};
 
 mod catalogue;
 
 pub use catalogue::CODE_PAGES;
 pub use catalogue::FSSELECTION;
+pub use catalogue::FSSELECTION_ENTRY;
 pub use catalogue::FSTYPE;
+pub use catalogue::FSTYPE_ENTRY;
 pub use catalogue::Field;
 pub use catalogue::LOWER_SIZE;
+pub use catalogue::LOWER_SIZE_ENTRY;
 pub use catalogue::UNICODE_RANGES;
 pub use catalogue::UPPER_SIZE;
+pub use catalogue::UPPER_SIZE_ENTRY;
 pub use catalogue::VERSION;
+use catalogue::VERSION_ENTRY;
 pub use catalogue::WEIGHT;
+pub use catalogue::WEIGHT_ENTRY;
 pub use catalogue::WIDTH;
+pub use catalogue::WIDTH_ENTRY;
 pub use catalogue::entries;
 pub use catalogue::entry;
 use os2_rules::Values;
@@ -32,33 +39,40 @@ pub fn values(table: &[u8]) -> Values
     ensures { λ r. ⌜ r ≡ valuesOf (now (table .entry)) ⌝ }
 {
     Values {
-        version: word(table, VERSION),
-        weight: word(table, WEIGHT),
-        width: word(table, WIDTH),
-        fstype: word(table, FSTYPE),
-        fsselection: word(table, FSSELECTION),
-        lower: optical_size(table, LOWER_SIZE),
-        upper: optical_size(table, UPPER_SIZE),
+        version: version(table),
+        weight: word(table, WEIGHT_ENTRY),
+        width: word(table, WIDTH_ENTRY),
+        fstype: word(table, FSTYPE_ENTRY),
+        fsselection: word(table, FSSELECTION_ENTRY),
+        lower: optical_size(table, LOWER_SIZE_ENTRY),
+        upper: optical_size(table, UPPER_SIZE_ENTRY),
     }
 }
 
 // An optical size, 0 where the version has none.
-fn optical_size(table: &[u8], k: usize) -> u16
-    requires { ⌜ OpticalField (now table) k ⌝ }
-    ensures { λ r. ⌜ r ≡ opticalSize (now (table .entry)) k ⌝ }
+fn optical_size(table: &[u8], f: Field) -> u16
+    requires { ⌜ OpticalField (now table) f ⌝ }
+    ensures { λ r. ⌜ r ≡ opticalSize (now (table .entry)) f ⌝ }
 {
-    if word(table, VERSION) < 5 {
+    if version(table) < 5 {
         return 0;
     }
-    word(table, k)
+    word(table, f)
+}
+
+// The version stored in a table.
+pub fn version(table: &[u8]) -> u16
+    requires { ⌜ 2 ≤ length (now table) ⌝ }
+    ensures { λ r. ⌜ r ≡ version (now (table .entry)) ⌝ }
+{
+    word(table, VERSION_ENTRY)
 }
 
 // A field of two bytes.
-pub fn word(table: &[u8], k: usize) -> u16
-    requires { ⌜ Word (now table) k ⌝ }
-    ensures { λ r. ⌜ r ≡ raw (now (table .entry)) k ⌝ }
+pub fn word(table: &[u8], f: Field) -> u16
+    requires { ⌜ Word (now table) f ⌝ }
+    ensures { λ r. ⌜ r ≡ rawIn (now (table .entry)) f ⌝ }
 {
-    let f = entry(k);
     let at = f.offset as usize;
     bigendian::read_u16(table, at)
 }

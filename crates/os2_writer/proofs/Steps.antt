@@ -14,12 +14,12 @@ use lib.IntN.{ℤ, pos}
 use Rattle.level.specs.Sizes.{tableSize}
 use Rattle.os2_fields.specs.declared.catalogue.Field.{Field}
 use Rattle.os2_fields.specs.Catalogue.{plain, catalogue, fieldOf}
-use Rattle.os2_fields.proofs.Tiling.{inside, width-is, sign-width, since-rises, version-word}
+use Rattle.os2_fields.proofs.Tiling.{inside, width-is, sign-width, since-rises}
 use Rattle.os2_fields.specs.Fields.{version}
-use Rattle.os2_fields.specs.Reading.{Lies, Word}
+use Rattle.os2_fields.specs.Reading.{Lies}
 use Rattle.os2.specs.Outcomes.{accepted}
 use Rattle.os2.specs.Acceptance.{judged}
-use Rattle.os2.proofs.Accepting.{open-two, open-lies}
+use Rattle.os2.proofs.Accepting.{open-lies}
 use Rattle.os2.specs.Writing.{numberFor, fits, codeFor, misfit, lowestMisfit, image, InVersion}
 use Rattle.os2.proofs.Codes.{code-small}
 use Rattle.os2.proofs.RoundTrips.{no-misfit}
@@ -42,9 +42,6 @@ since-most k h = since-rises k 47 (omega arith) (omega arith)
 -- of a table that level 5 accepts, a field that its version has can be read
 pub readable : (b : List ℕ) → judged 5 b ≡ accepted → (k : ℕ) → k < 48 → fieldOf k .since ≤ version b → Lies b (fieldOf k)
 readable b told k h s = open-lies 5 b told k h (since-most k h) s
-
-pub version-readable : (b : List ℕ) → judged 5 b ≡ accepted → Word b 0
-version-readable b told = version-word b (open-two 5 b told)
 
 module _ (v : ℕ) (xs : List ℤ) (fit : Fitting v xs) where
   pub fit-at : (k : ℕ) → k < 48 → fieldOf k .since ≤ v → fits (fieldOf k) (numberFor xs k) ≡ true

@@ -269,7 +269,7 @@ fn read(table: &[u8]) -> [i64; 48]
     ensures { λ r. ⌜ Reading (now (table .entry)) r ⌝ }
 {
     let fields = os2_fields::entries();
-    let version = os2_fields::word(table, VERSION);
+    let version = os2_fields::version(table);
     let mut numbers: [i64; 48] = [0; 48];
     let mut k: usize = 0;
     while k < 48 {

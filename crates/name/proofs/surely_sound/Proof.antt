@@ -92,11 +92,10 @@ spoken c h =
     let j = c .loop .i - 1 in
     let bytes : Bytes t = λ k. omega (arith, c .before .before .before .before .before .shared-slice-known .given k) in
     fit-more t (c .loop .i) (c .loop .inv .2) (λ l.
-        let halves = text-halves t bytes (textAt j) in
-        (
-          string-fits t (textAt j) (omega (arith, rw (c .loop .inv .3 l .1, halves .0, halves .1) at (h .1))),
-          language-below t j (rw (c .loop .inv .3 l .0, key-language t bytes j) at (h .0)),
-        ))
+    let halves = text-halves t bytes (textAt j) in (
+      string-fits t (textAt j) (omega (arith, rw (c .loop .inv .3 l .1, halves .0, halves .1) at (h .1))),
+      language-below t j (rw (c .loop .inv .3 l .0, key-language t bytes j) at (h .0)),
+    ))
 
 loop-again : tie.Need-loop-again Inv-loop μ-loop
 loop-again c =

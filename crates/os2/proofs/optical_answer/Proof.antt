@@ -63,7 +63,7 @@ sizes-of-requires : tie.Need-sizes-of-requires
 sizes-of-requires c κs = search needs
 
 returns-4 : tie.Need-returns-4
-unfolding onWhole since valueOf
+unfolding onWhole since valueOf fieldOf catalogue
 returns-4 c = rw (given-whole _ _ OpticalSizes refl (not-newer (c .before .before .before .before .before .before .before)), knows (c .before .before .before .before .before), has (c .before .before .before)) (ap value (ap sizes (c .sizes-of .ensures ∙ rw (c .before .word2 .ensures, c .before .before .word .ensures))))
 
 pub optical-answer-spec : {M : Type 1} → statement M

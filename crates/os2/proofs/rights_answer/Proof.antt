@@ -39,7 +39,7 @@ rights-of-requires : tie.Need-rights-of-requires
 rights-of-requires c κs = search needs
 
 returns-2 : tie.Need-returns-2
-unfolding onWhole since valueOf
+unfolding onWhole since valueOf fieldOf catalogue
 returns-2 c = rw (given-whole _ _ Rights refl (not-newer (c .before .before)), since-first) (ap value (ap rights (c .rights-of .ensures ∙ ap rightsOf (c .before .word .ensures))))
 
 pub rights-answer-spec : {M : Type 1} → statement M

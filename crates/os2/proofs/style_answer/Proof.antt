@@ -39,11 +39,11 @@ unfolding fieldOf catalogue
 word-requires-2 c κs = open-word _ _ (c .before .before .before .before .before .pre) 3 (omega arith) refl zero-le zero-le
 
 position-of-requires : tie.Need-position-of-requires
-unfolding valuesOf
+unfolding valuesOf fieldOf catalogue
 position-of-requires c κs = rw (c .word2 .ensures) (open-rules _ _ (c .before .before .before .before .before .before .pre) (above-le (not-newer (c .before .before))) .rule-2)
 
 returns-2 : tie.Need-returns-2
-unfolding onWhole since valueOf
+unfolding onWhole since valueOf fieldOf catalogue
 returns-2 c = rw (given-whole _ _ StylePosition refl (not-newer (c .before .before .before)), since-first, c .position-of .ensures .0, c .position-of .ensures .1, c .before .word2 .ensures, c .before .before .word .ensures)
 
 pub style-answer-spec : {M : Type 1} → statement M

@@ -1,12 +1,11 @@
--- The version is the word at the start of the table.
+-- The version is the table's own.
 -- Assumes nothing.
-use Rattle.os2_fields.proofs.Tiling.{version-word}
 use borrow.Author.Needs.{needs}
 use Rattle.os2.proofs.version_of.Statement.{statement}
 use Rattle.os2.proofs.version_of.Tie as tie
 
-word-requires : tie.Need-word-requires
-word-requires c κs = version-word _ (c .before .pre)
+version-requires : tie.Need-version-requires
+version-requires c κs = search needs
 
 cast-result : tie.Need-cast-result
 cast-result c = search needs
@@ -15,4 +14,4 @@ returns : tie.Need-returns
 returns c = search needs
 
 pub version-of-spec : {M : Type 1} → statement M
-version-of-spec = tie.close (tie.spec word-requires cast-result returns)
+version-of-spec = tie.close (tie.spec version-requires cast-result returns)

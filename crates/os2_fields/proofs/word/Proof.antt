@@ -1,4 +1,4 @@
--- The entry is the field of that number, which has two bytes.
+-- The field has two bytes.
 -- Assumes nothing.
 use mathlib.Core.Path.{sym, _∙_}
 use native.Mathlib.Omega.{arith}
@@ -7,17 +7,14 @@ use borrow.Author.Needs.{needs}
 use Rattle.os2_fields.proofs.word.Statement.{statement}
 use Rattle.os2_fields.proofs.word.Tie as tie
 
-entry-requires : tie.Need-entry-requires
-entry-requires c κs = search needs
-
 cast-at : tie.Need-cast-at
 cast-at c = search needs
 
 read-u16-requires : tie.Need-read-u16-requires
-read-u16-requires c κs = rw (c .before .entry .ensures) (omega (arith, c .before .before .before .pre .two, c .before .before .before .pre .lies .inside))
+read-u16-requires c κs = omega (arith, c .before .before .pre .two, c .before .before .pre .lies .inside)
 
 returns : tie.Need-returns
-returns c = c .read-u16 .ensures ∙ (rw (c .before .before .entry .ensures) (sym (raw-word _ _ (c .before .before .before .before .pre .two))))
+returns c = c .read-u16 .ensures ∙ sym (raw-word _ _ (c .before .before .before .pre .two))
 
 pub word-spec : {M : Type 1} → statement M
-word-spec = tie.close (tie.spec entry-requires cast-at read-u16-requires returns)
+word-spec = tie.close (tie.spec cast-at read-u16-requires returns)

@@ -4,13 +4,14 @@ use native.Mathlib.Numerals.{add-one}
 use lib.ListN.{length, length-set}
 use Rattle.os2_fields.specs.Fields.{valueIn, version}
 use Rattle.os2_writer.proofs.Signs.{kept}
-use Rattle.os2_writer.proofs.Steps.{entry-is, readable, version-readable, read-next, comes-before}
+use Rattle.os2_writer.proofs.Steps.{entry-is, readable, read-next, comes-before}
 use borrow.Author.Needs.{needs}
 use Prim.Native.Nat.{ℕ, _-_, _<_, _≤_}
 use mathlib.Core.Path.{_≡_, refl, _∙_}
 use native.Mathlib.Omega.{arith}
 use Rattle.os2_fields.specs.Catalogue.{fieldOf}
 use Rattle.os2.specs.Writing.{numberFor}
+use Rattle.os2.proofs.Accepting.{open-two}
 use Rattle.os2_writer.proofs.read.Statement.{statement}
 use Rattle.os2_writer.proofs.read.Tie as tie
 
@@ -23,13 +24,13 @@ abbrev μ-loop : tie.MeasureT-loop
 -- the version has the field
 here : (c : tie.Else1 Inv-loop μ-loop) → fieldOf (c .before .before .before .before .loop .k) .since ≤ version (c .before .before .before .before .before .before .before .before .args .table .now)
 here c =
-    rw (entry-is _ (c .before .before .before .before .loop .k) (c .before .before .before .before .before .before .entries .ensures), c .before .before .before .before .before .word .ensures) at (c .if1 .left)
+    rw (entry-is _ (c .before .before .before .before .loop .k) (c .before .before .before .before .before .before .entries .ensures), c .before .before .before .before .before .version .ensures) at (c .if1 .left)
 
 entries-requires : tie.Need-entries-requires Inv-loop μ-loop
 entries-requires c κs = search needs
 
-word-requires : tie.Need-word-requires Inv-loop μ-loop
-word-requires c κs = version-readable _ (c .before .before .pre)
+version-requires : tie.Need-version-requires Inv-loop μ-loop
+version-requires c κs = open-two 5 _ (c .before .before .pre)
 
 loop-holds : tie.Need-loop-holds Inv-loop μ-loop
 loop-holds c = (omega arith, refl, λ j h. absurd (omega arith))
@@ -44,7 +45,7 @@ cast-since : tie.Need-cast-since Inv-loop μ-loop
 cast-since c = search needs
 
 returns : tie.Need-returns Inv-loop μ-loop
-returns c = λ j i. c .before .before .before .before .loop .inv .2 j (comes-before _ j (c .before .before .before .before .loop .k) i (rw (entry-is _ (c .before .before .before .before .loop .k) (c .before .before .before .before .before .before .entries .ensures), c .before .before .before .before .before .word .ensures) at (c .if1 .taken)) (omega arith))
+returns c = λ j i. c .before .before .before .before .loop .inv .2 j (comes-before _ j (c .before .before .before .before .loop .k) i (rw (entry-is _ (c .before .before .before .before .loop .k) (c .before .before .before .before .before .before .entries .ensures), c .before .before .before .before .before .version .ensures) at (c .if1 .taken)) (omega arith))
 
 value-requires : tie.Need-value-requires Inv-loop μ-loop
 value-requires c κs = rw (entry-is _ (c .before .before .before .before .loop .k) (c .before .before .before .before .before .before .entries .ensures)) (readable _ (c .before .before .before .before .before .before .before .before .pre) _ (omega arith) (here c))
@@ -74,7 +75,7 @@ read-spec =
     Inv-loop
     μ-loop
     entries-requires
-    word-requires
+    version-requires
     loop-holds
     mul-f
     array-copy-out-f
