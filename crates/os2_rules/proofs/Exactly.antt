@@ -13,7 +13,7 @@ use lib.Pow.{pow-pos, mod-pow-add, shr-shr}
 use borrow.Author.Tests.{lt-ltb, le-ltb, lt-leb, eq-eqb, ltb-true, ltb-false, leb-false, eqb-true}
 use Rattle.os2_rules.specs.Bits.{bit, bits}
 use Rattle.os2_rules.specs.Rules.{Clear, WeightRule, WidthRule, TypeRule, RightsRule, SelectionRule, RegularRule, SizesRule, Before2, Before3, Before4, Before5, Before6, Before7, Rules, FirstBroken, broken-1, broken-2, broken-3, broken-4, broken-5, broken-6, broken-7}
-use Rattle.os2_rules.specs.Tests.{anySet, weightBroken, widthBroken, typeBroken, rightsBroken, selectionBroken, regularBroken, sizesBroken, verdictOf}
+use Rattle.os2_rules.specs.Tests.{anySet, weightBroken, widthBroken, typeBroken, rightsBroken, selectionBroken, regularBroken, sizesBroken, verdictOf, isKept}
 use Rattle.os2_rules.specs.declared.Values.{Values}
 use Rattle.os2_rules.specs.declared.Verdict.{Verdict}
 use Rattle.os2_rules.specs.declared.Verdict.the-variants.{Kept, Broken}
@@ -174,6 +174,10 @@ sizes-exactly w lo up = (
 kept-step : (t : Bool) (k : ℕ) (rest : Verdict) → cond t (Broken k) rest ≡ Kept → (t ≡ false) × (rest ≡ Kept)
 kept-step true k rest e = let z : _≡_ {A = ℕ} 0 1 = cc in absurd (omega arith)
 kept-step false k rest e = (refl, e)
+
+pub kept-true : (d : Verdict) → isKept d ≡ true → d ≡ Kept
+kept-true Kept e = refl
+kept-true (Broken k) e = absurd (false≢true e)
 
 -- no rule is broken exactly when every rule holds
 pub kept-exactly : (v : Values) → (verdictOf v ≡ Kept) ↔ Rules v

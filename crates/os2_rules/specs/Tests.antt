@@ -1,6 +1,6 @@
 -- The value rules as tests: each definition says when its rule is broken.
 use Prim.Native.Nat.{ℕ, _+_}
-use mathlib.Core.Bool.{Bool, cond, _&&_, _||_}
+use mathlib.Core.Bool.{Bool, true, false, cond, _&&_, _||_}
 use lib.Dec.{ltb, leb, eqb}
 use Rattle.os2_rules.specs.Bits.{bit, bits}
 use Rattle.os2_rules.specs.declared.Values.{Values}
@@ -43,3 +43,8 @@ verdictOf v =
     (cond (regularBroken (v .fsselection)) (Broken 6)
     (cond (sizesBroken (v .version) (v .lower) (v .upper)) (Broken 7)
     Kept))))))
+
+-- whether no rule is broken
+abbrev pub isKept : Verdict → Bool
+isKept Kept = true
+isKept (Broken k) = false

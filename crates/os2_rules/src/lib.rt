@@ -1,7 +1,7 @@
 // The seven value rules of an 'OS/2' table, on the values that they look at.
 // Document 01, "The 'OS/2' fields", value rules 1 to 7. The reader and the writer share them.
 ghost use mathlib.Core.Path.{_≡_};
-ghost use Rattle.os2_rules.specs.Tests.{weightBroken, widthBroken, typeBroken, rightsBroken, selectionBroken, regularBroken, sizesBroken, verdictOf};
+ghost use Rattle.os2_rules.specs.Tests.{weightBroken, widthBroken, typeBroken, rightsBroken, selectionBroken, regularBroken, sizesBroken, verdictOf, isKept};
 
 // The values that the rules look at. The optical sizes are those of version 5 and are not looked at in another.
 pub struct Values {
@@ -48,6 +48,16 @@ pub fn judge(v: Values) -> Verdict
         return Verdict::Broken(7);
     }
     Verdict::Kept
+}
+
+// Whether no rule is broken.
+pub fn keeps(v: Values) -> bool
+    ensures { λ r. ⌜ r ≡ isKept (verdictOf v) ⌝ }
+{
+    match judge(v) {
+        Verdict::Kept => true,
+        Verdict::Broken(_) => false,
+    }
 }
 
 // Rule 1.

@@ -1,6 +1,8 @@
 -- Refusal 1 is that of the level; else it is what `judge` says at the level of that number.
 -- Assumes nothing.
-use mathlib.Core.Path.{sym, _∙_}
+use mathlib.Core.Path.{_≡_, sym, _∙_}
+use Rattle.level.specs.Levels.{levelOf}
+use Rattle.level.specs.declared.LevelAnswer.the-variants.{Known}
 use Rattle.os2.proofs.Asked.{checked-known, checked-refused}
 use borrow.Author.Needs.{needs}
 use Rattle.os2.proofs.check.Statement.{statement}
@@ -15,15 +17,34 @@ enum-told c = search needs
 enum-known-known : tie.Need-enum-known-known
 enum-known-known c = search needs
 
+surely-accepts-requires : tie.Need-surely-accepts-requires
+surely-accepts-requires c κs = search needs
+
+-- the level of that number
+level-is : (c : tie.After-known-told) → levelOf (c .before .before .before .before .before .args .level) ≡ Known (c .before .known .given .0 .0)
+level-is c = sym (c .before .before .before .new .ensures) ∙ c .before .known .given .1
+
+returns : tie.Need-returns
+returns c = sym (c .before .surely-accepts .ensures (c .if1 .taken)) ∙ checked-known _ _ (level-is (c .before .before))
+
 judge-requires : tie.Need-judge-requires
 judge-requires c κs = search needs
 
-returns : tie.Need-returns
-returns c = checked-refused _ _ (sym (c .before .before .new .ensures) ∙ c .enum-told .given .1)
-
 returns-2 : tie.Need-returns-2
-returns-2 c = c .judge .ensures ∙ checked-known _ _ (sym (c .before .before .before .before .new .ensures) ∙ c .before .before .known .given .1)
+returns-2 c = checked-refused _ _ (sym (c .before .before .new .ensures) ∙ c .enum-told .given .1)
+
+returns-3 : tie.Need-returns-3
+returns-3 c = c .judge .ensures ∙ checked-known _ _ (level-is (c .before .before .before))
 
 pub check-spec : {M : Type 1} → statement M
 check-spec =
-    tie.close (tie.spec new-requires enum-told enum-known-known judge-requires returns returns-2)
+    tie.close
+    (tie.spec
+    new-requires
+    enum-told
+    enum-known-known
+    surely-accepts-requires
+    returns
+    judge-requires
+    returns-2
+    returns-3)

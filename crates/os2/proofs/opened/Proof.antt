@@ -3,6 +3,8 @@
 use mathlib.Core.Path.{_≡_, sym, ap, _∙_}
 use Rattle.level.specs.Levels.{levelOf}
 use Rattle.level.specs.declared.LevelAnswer.the-variants.{Known}
+use Rattle.os2.specs.Outcomes.{accepted, unless}
+use Rattle.os2.specs.Questions.{outOfRange, ownRefusal}
 use Rattle.os2.specs.Replies.{saidCheck}
 use Rattle.os2.proofs.Asked.{opened-refused, opened-own, opened-judged}
 use borrow.Author.Needs.{needs}
@@ -34,14 +36,24 @@ enum-known-why c = search needs
 enum-told-2 : tie.Need-enum-told-2
 enum-told-2 c = search needs
 
+surely-accepts-requires : tie.Need-surely-accepts-requires
+surely-accepts-requires c κs = search needs
+
+-- the question's own number is in its range
+in-range-is : (c : tie.After-enum-told2) → accepted ≡ unless (outOfRange (c .before .before .before .before .before .before .before .before .args .question)) (ownRefusal (c .before .before .before .before .before .before .before .before .args .question)) accepted
+in-range-is c = sym (ap saidCheck (c .enum-told2 .given .1)) ∙ c .before .before .in-range .ensures
+
+returns-2 : tie.Need-returns-2
+returns-2 c = opened-judged _ _ _ (level-is (c .before .before .before .before .before)) (in-range-is (c .before .before)) (sym (c .before .surely-accepts .ensures (c .if1 .taken)))
+
 judge-requires : tie.Need-judge-requires
 judge-requires c κs = search needs
 
-returns-2 : tie.Need-returns-2
-returns-2 c = opened-own _ _ _ (level-is (c .before .before .before .before)) (sym (ap saidCheck (c .before .why .given .1)) ∙ c .before .before .before .in-range .ensures)
-
 returns-3 : tie.Need-returns-3
-returns-3 c = opened-judged _ _ _ (level-is (c .before .before .before .before)) (sym (ap saidCheck (c .before .enum-told2 .given .1)) ∙ c .before .before .before .in-range .ensures) (c .judge .ensures)
+returns-3 c = opened-own _ _ _ (level-is (c .before .before .before .before)) (sym (ap saidCheck (c .before .why .given .1)) ∙ c .before .before .before .in-range .ensures)
+
+returns-4 : tie.Need-returns-4
+returns-4 c = opened-judged _ _ _ (level-is (c .before .before .before .before .before .before)) (in-range-is (c .before .before .before)) (c .judge .ensures)
 
 pub opened-spec : {M : Type 1} → statement M
 opened-spec =
@@ -54,6 +66,8 @@ opened-spec =
     in-range-requires
     enum-known-why
     enum-told-2
-    judge-requires
+    surely-accepts-requires
     returns-2
-    returns-3)
+    judge-requires
+    returns-3
+    returns-4)
