@@ -1,0 +1,19 @@
+-- The words of what the check says, which is the definition's.
+-- Assumes nothing.
+use mathlib.Core.Path.{ap, _∙_}
+use Rattle.gyalvindor.specs.Words.{outcomeRefusal}
+use borrow.Author.Needs.{needs}
+use Rattle.gyalvindor.proofs.gv_os2_check.Statement.{statement}
+use Rattle.gyalvindor.proofs.gv_os2_check.Tie as tie
+
+check-requires : tie.Need-check-requires
+check-requires c κs = search needs
+
+checked-words-requires : tie.Need-checked-words-requires
+checked-words-requires c κs = search needs
+
+returns : tie.Need-returns
+returns c = c .checked-words .ensures ∙ ap outcomeRefusal (c .before .check .ensures)
+
+pub gv-os2-check-spec : {M : Type 1} → statement M
+gv-os2-check-spec = tie.close (tie.spec check-requires checked-words-requires returns)

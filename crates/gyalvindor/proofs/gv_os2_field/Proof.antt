@@ -1,0 +1,19 @@
+-- The words of the reply, which says what the definition does.
+-- Assumes nothing.
+use mathlib.Core.Path.{ap, _∙_}
+use Rattle.gyalvindor.specs.Words.{numberWords}
+use borrow.Author.Needs.{needs}
+use Rattle.gyalvindor.proofs.gv_os2_field.Statement.{statement}
+use Rattle.gyalvindor.proofs.gv_os2_field.Tie as tie
+
+field-requires : tie.Need-field-requires
+field-requires c κs = search needs
+
+number-words-requires : tie.Need-number-words-requires
+number-words-requires c κs = search needs
+
+returns : tie.Need-returns
+returns c = c .number-words .ensures ∙ ap numberWords (c .before .field .ensures)
+
+pub gv-os2-field-spec : {M : Type 1} → statement M
+gv-os2-field-spec = tie.close (tie.spec field-requires number-words-requires returns)

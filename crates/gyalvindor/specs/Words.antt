@@ -1,0 +1,113 @@
+-- An answer in the words of C: what stands in each member of the structs. A member that does not apply is 0.
+use Prim.Native.Nat.{ℕ}
+use mathlib.Core.Option.{Option, none, some}
+use lib.IntN.{ℤ, pos}
+use lib.Ieee.{Float, binary32, ofBits}
+use Rattle.name.specs.Refusals.{numberOf, placeOf}
+use Rattle.name.specs.declared.Place.{Place}
+use Rattle.name.specs.declared.Place.the-variants.{Nowhere, At}
+use Rattle.name.specs.declared.Verdict.{Verdict}
+use Rattle.name.specs.declared.Verdict.the-variants.{Accepted, Refused}
+use Rattle.name_lookup.specs.declared.Numbered.{Numbered}
+use Rattle.name_lookup.specs.declared.Numbered.the-variants.{Text, Refusal}
+use Rattle.name_strings.specs.declared.NumberedVersion.{NumberedVersion}
+use Rattle.name_strings.specs.declared.NumberedVersion.the-variants as version
+use Rattle.os2_style.specs.Style.{every, upwards, between}
+use Rattle.os2.specs.Outcomes.{integer, rights, position, sizes, Said, value, absent, not-known, Outcome, refused, answered}
+use Rattle.gyalvindor.specs.declared.GvRefusal.{GvRefusal}
+use Rattle.gyalvindor.specs.declared.GvText.{GvText}
+use Rattle.gyalvindor.specs.declared.GvVersion.{GvVersion}
+use Rattle.gyalvindor.specs.declared.GvNumber.{GvNumber}
+use Rattle.gyalvindor.specs.declared.GvRights.{GvRights}
+use Rattle.gyalvindor.specs.declared.GvStyle.{GvStyle}
+use Rattle.gyalvindor.specs.declared.GvOptical.{GvOptical}
+use Rattle.gyalvindor.specs.declared.GvWritten.{GvWritten}
+
+-- ---- refusals: "A refusal returns its number and what it carries, and no partial result."
+
+abbrev pub refusalWords : ℕ → Option ℕ → GvRefusal
+refusalWords n none = record { number = n; carries = 0; carried = 0 }
+refusalWords n (some k) = record { number = n; carries = 1; carried = k }
+
+-- where the call is not refused
+abbrev pub noRefusal : GvRefusal
+noRefusal = refusalWords 0 none
+
+-- ---- 'name' tables
+
+-- the record or the tag that a refusal carries
+abbrev pub carriedAt : Place → Option ℕ
+carriedAt Nowhere = none
+carriedAt (At i) = some i
+
+unfoldable pub verdictWords : Verdict → GvRefusal
+verdictWords Accepted = noRefusal
+verdictWords (Refused r) = refusalWords (numberOf r) (carriedAt (placeOf r))
+
+-- a string's start and length
+unfoldable pub textWords : Numbered → GvText
+textWords (Text s m) = record { refusal = noRefusal; start = s; length = m }
+textWords (Refusal n p) = record { refusal = refusalWords n (carriedAt p); start = 0; length = 0 }
+
+-- the figures before and after the period
+unfoldable pub versionWords : NumberedVersion → GvVersion
+versionWords (version.Number a b) = record { refusal = noRefusal; major = a; minor = b }
+versionWords (version.Refusal n p) = record { refusal = refusalWords n (carriedAt p); major = 0; minor = 0 }
+
+-- ---- 'OS/2' tables
+
+unfoldable pub outcomeRefusal : {A : Type 0} → Outcome A → GvRefusal
+outcomeRefusal (refused n c) = refusalWords n c
+outcomeRefusal (answered a) = noRefusal
+
+-- the members of an answer of any kind
+pub record Members : Type 0 where
+  -- 0 none, the call being refused, 1 a value, 2 absent, 3 not known
+  pub kind : ℕ
+  -- of a field or a bit
+  pub number : ℤ
+  -- 0 installable, 1 restricted, 2 preview, 3 editable
+  pub rights : ℕ
+  -- of the style position
+  pub weight : Float
+  pub width : Float
+  -- of optical sizes: 0 none, 1 every size, 2 from `lower` upwards, 3 between `lower` and `upper`
+  pub sizes : ℕ
+  pub lower : Float
+  pub upper : Float
+
+-- 0.0
+abbrev nought : Float
+nought = ofBits binary32 0
+
+abbrev row : ℕ → ℤ → ℕ → Float → Float → ℕ → Float → Float → Members
+row k x r w p s l u = record { kind = k; number = x; rights = r; weight = w; width = p; sizes = s; lower = l; upper = u }
+
+-- each question gives values of one kind, whose members it shows; the members of the other kinds are 0
+unfoldable pub membersOf : Outcome Said → Members
+membersOf (refused n c) = row 0 (pos 0) 0 nought nought 0 nought nought
+membersOf (answered absent) = row 2 (pos 0) 0 nought nought 0 nought nought
+membersOf (answered not-known) = row 3 (pos 0) 0 nought nought 0 nought nought
+membersOf (answered (value (integer x))) = row 1 x 0 nought nought 0 nought nought
+membersOf (answered (value (rights k))) = row 1 (pos 0) k nought nought 0 nought nought
+membersOf (answered (value (position w p))) = row 1 (pos 0) 0 w p 0 nought nought
+membersOf (answered (value (sizes every))) = row 1 (pos 0) 0 nought nought 1 nought nought
+membersOf (answered (value (sizes (upwards l)))) = row 1 (pos 0) 0 nought nought 2 l nought
+membersOf (answered (value (sizes (between l u)))) = row 1 (pos 0) 0 nought nought 3 l u
+
+unfoldable pub numberWords : Outcome Said → GvNumber
+numberWords o = record { refusal = outcomeRefusal o; kind = membersOf o .kind; value = membersOf o .number }
+
+unfoldable pub rightsWords : Outcome Said → GvRights
+rightsWords o = record { refusal = outcomeRefusal o; kind = membersOf o .kind; rights = membersOf o .rights }
+
+unfoldable pub styleWords : Outcome Said → GvStyle
+styleWords o = record { refusal = outcomeRefusal o; kind = membersOf o .kind; weight = membersOf o .weight; width = membersOf o .width }
+
+unfoldable pub opticalWords : Outcome Said → GvOptical
+opticalWords o = record { refusal = outcomeRefusal o; kind = membersOf o .kind; sizes = membersOf o .sizes; lower = membersOf o .lower; upper = membersOf o .upper }
+
+-- ---- the writer: the bytes written
+unfoldable pub writtenWords : Outcome ℕ → GvWritten
+writtenWords (refused n c) = record { refusal = refusalWords n c; size = 0 }
+writtenWords (answered n) = record { refusal = noRefusal; size = n }

@@ -1,0 +1,232 @@
+/*
+ * Gyalvindor: a proved reader of a font's 'name' and 'OS/2' tables, and a proved writer of 'OS/2' tables.
+ *
+ * Link with libgyalvindor.a, which `rt staticlib gyalvindor` builds. The library holds no state, allocates nothing,
+ * keeps no pointer after a call and never fails: every call answers, whatever the bytes and numbers are. Any number of
+ * threads may call it at once.
+ *
+ * A table is lent as a pointer to its first byte and its length in bytes. Pointers must not be NULL, also where the
+ * length is 0. Only gv_os2_write and gv_os2_rewrite write to memory, and only to the room that they are lent.
+ *
+ *     gv_number weight = gv_os2_field(table, length, 5, GV_WEIGHT);
+ *     if (weight.refusal.number != 0)
+ *         printf("refused %u\n", (unsigned)weight.refusal.number);
+ *     else if (weight.kind == GV_VALUE)
+ *         printf("weight %lld\n", (long long)weight.value);
+ */
+#ifndef GYALVINDOR_H
+#define GYALVINDOR_H
+
+#include <stddef.h>
+#include <stdint.h>
+
+#ifdef __cplusplus
+extern "C" {
+#endif
+
+/*
+ * A refusal. `number` is 0 where the call is not refused; then all members are 0. Where it is refused, the members beside
+ * the refusal are 0 in every answer.
+ *
+ *   number  given exactly when                                              carried
+ *     1     the level is above 5                                            -
+ *     2     the OS/2 table is under 2 bytes, or shorter than the size       -
+ *           for the smaller of its version and the level
+ *     3     an OS/2 value rule is broken                                    the first rule broken, 1 to 7
+ *     4     the version to write is outside 0 to 5                          -
+ *     5     the room to write in is shorter than the version's size         -
+ *     6     the field number is above 47                                    -
+ *     7     the bit number is out of its range                              -
+ *     8     a value to write does not fit its field                         the lowest such field
+ *    10     the 'name' table is under 6 bytes                               -
+ *    11     its format is neither 0 nor 1                                   -
+ *    12     its name records pass the table's end                           -
+ *    13     its tag count or tag records pass the end                       -
+ *    14     its storage starts before the end of the records and tags,      -
+ *           or past the table's end
+ *    15     a record's string passes the end of storage                     the record
+ *    16     a tag's string passes the end of storage                        the tag
+ *    17     a record's key is not above the one before it                   the later record
+ *    18     a record's language number is not allowed                       the record
+ *    20     no record has the key (version: neither key)                    -
+ *    21     neither PostScript record is there                              -
+ *    22     exactly one is there                                            -
+ *    23     a PostScript string is ill-formed                               -
+ *    24     the two PostScript strings differ                               -
+ *    25     no version number in the string                                 -
+ */
+typedef struct gv_refusal {
+    uint32_t number;  /* the number above, or 0 */
+    uint32_t carries; /* 1 where it carries something, else 0 */
+    size_t carried;   /* what it carries, or 0 */
+} gv_refusal;
+
+/* ---- 'name' tables */
+
+/* A string of the table: where it starts, counted from the table's first byte, and how many bytes it has. */
+typedef struct gv_text {
+    gv_refusal refusal;
+    size_t start;
+    size_t length;
+} gv_text;
+
+/* A version number: the figures before and after the period. */
+typedef struct gv_version {
+    gv_refusal refusal;
+    uint32_t major;
+    uint32_t minor;
+} gv_version;
+
+/* Is the table accepted? Refusals 10 to 18. */
+gv_refusal gv_name_check(const uint8_t *table, size_t length);
+
+/* The string of the record with these four numbers. Refusals 10 to 18, then 20. Any numbers may be asked for: a part above
+   65535 is in no record. */
+gv_text gv_name_lookup(const uint8_t *table, size_t length, uint32_t platform, uint32_t encoding, uint32_t language,
+                       uint32_t name);
+
+/* The PostScript name, as the string of the record (1, 0, 0, 6). Refusals 10 to 18, then 21 to 24. */
+gv_text gv_name_postscript(const uint8_t *table, size_t length);
+
+/* The version number, from the string of the record (3, 1, 0x409, 5), or of (1, 0, 0, 5) where there is no such record.
+   Refusals 10 to 18, then 20, 25. */
+gv_version gv_name_version(const uint8_t *table, size_t length);
+
+/* ---- 'OS/2' tables. The level is the highest OS/2 version that the reader is to know, 0 to 5. */
+
+/* What an answer is. */
+#define GV_REFUSED 0u   /* no answer: the call is refused */
+#define GV_VALUE 1u     /* a value, in the members after `kind` */
+#define GV_ABSENT 2u    /* it came in with a version above the table's */
+#define GV_NOT_KNOWN 3u /* it came in after the level; rights, style position and optical sizes: also where the table's version
+                           is above the level */
+
+/* A field's number, or a bit (0 or 1). `value` is 0 unless kind is GV_VALUE. */
+typedef struct gv_number {
+    gv_refusal refusal;
+    uint32_t kind;
+    int64_t value;
+} gv_number;
+
+/* What fsType allows. */
+#define GV_INSTALLABLE 0u
+#define GV_RESTRICTED 1u
+#define GV_PREVIEW 2u
+#define GV_EDITABLE 3u
+
+/* `rights` is 0 unless kind is GV_VALUE. */
+typedef struct gv_rights {
+    gv_refusal refusal;
+    uint32_t kind;
+    uint32_t rights;
+} gv_rights;
+
+/* The weight (1 to 1000) and the width in percent (50 to 200). Both are 0 unless kind is GV_VALUE. */
+typedef struct gv_style {
+    gv_refusal refusal;
+    uint32_t kind;
+    float weight;
+    float width;
+} gv_style;
+
+/* What the optical sizes are. */
+#define GV_NO_SIZES 0u /* kind is not GV_VALUE */
+#define GV_EVERY 1u    /* every size; `lower` and `upper` are 0 */
+#define GV_UPWARDS 2u  /* from `lower` upwards; `upper` is 0 */
+#define GV_BETWEEN 3u  /* between `lower` and `upper` */
+
+/* In points. */
+typedef struct gv_optical {
+    gv_refusal refusal;
+    uint32_t kind;
+    uint32_t sizes;
+    float lower;
+    float upper;
+} gv_optical;
+
+/* The fields, for gv_os2_field and gv_os2_write. */
+enum {
+    GV_VERSION = 0,
+    GV_AVERAGE_WIDTH = 1,
+    GV_WEIGHT = 2,
+    GV_WIDTH = 3,
+    GV_FSTYPE = 4,
+    GV_SUBSCRIPT_X_SIZE = 5,
+    GV_SUBSCRIPT_Y_SIZE = 6,
+    GV_SUBSCRIPT_X_OFFSET = 7,
+    GV_SUBSCRIPT_Y_OFFSET = 8,
+    GV_SUPERSCRIPT_X_SIZE = 9,
+    GV_SUPERSCRIPT_Y_SIZE = 10,
+    GV_SUPERSCRIPT_X_OFFSET = 11,
+    GV_SUPERSCRIPT_Y_OFFSET = 12,
+    GV_STRIKEOUT_SIZE = 13,
+    GV_STRIKEOUT_POSITION = 14,
+    GV_FAMILY_CLASS = 15,
+    GV_PANOSE = 16,         /* ten fields, 16 to 25 */
+    GV_UNICODE_RANGES = 26, /* four fields, 26 to 29 */
+    GV_VENDOR = 30,
+    GV_FSSELECTION = 31,
+    GV_FIRST_CHAR = 32,
+    GV_LAST_CHAR = 33,
+    GV_TYPO_ASCENDER = 34,
+    GV_TYPO_DESCENDER = 35,
+    GV_TYPO_GAP = 36,
+    GV_WIN_ASCENT = 37,
+    GV_WIN_DESCENT = 38,
+    GV_CODE_PAGES = 39, /* two fields, 39 and 40 */
+    GV_X_HEIGHT = 41,
+    GV_CAP_HEIGHT = 42,
+    GV_DEFAULT_CHAR = 43,
+    GV_BREAK_CHAR = 44,
+    GV_MAX_CONTEXT = 45,
+    GV_LOWER_SIZE = 46,
+    GV_UPPER_SIZE = 47,
+    GV_FIELDS = 48 /* how many there are */
+};
+
+/* Does the level accept the table? Refusals 1, 2, 3. */
+gv_refusal gv_os2_check(const uint8_t *table, size_t length, uint32_t level);
+
+/* Field 0 to 47. Refusals 1, 6, 2, 3, in this order. */
+gv_number gv_os2_field(const uint8_t *table, size_t length, uint32_t level, uint32_t number);
+
+/* Bit 0 to 9 of fsSelection. Refusals 1, 7, 2, 3, in this order. */
+gv_number gv_os2_selection_bit(const uint8_t *table, size_t length, uint32_t level, uint32_t number);
+
+/* Bit 0 to 127 of the Unicode ranges. Refusals 1, 7, 2, 3, in this order. */
+gv_number gv_os2_unicode_bit(const uint8_t *table, size_t length, uint32_t level, uint32_t number);
+
+/* Bit 0 to 63 of the code pages. Refusals 1, 7, 2, 3, in this order. */
+gv_number gv_os2_code_page_bit(const uint8_t *table, size_t length, uint32_t level, uint32_t number);
+
+/* What fsType allows. Refusals 1, 2, 3. */
+gv_rights gv_os2_rights(const uint8_t *table, size_t length, uint32_t level);
+
+/* The weight and the width in percent. Refusals 1, 2, 3. */
+gv_style gv_os2_style_position(const uint8_t *table, size_t length, uint32_t level);
+
+/* The optical sizes that the face is meant for. Refusals 1, 2, 3. */
+gv_optical gv_os2_optical_sizes(const uint8_t *table, size_t length, uint32_t level);
+
+/* ---- writing 'OS/2' tables */
+
+/* How many bytes were written. Where the call is refused it is 0, and the room holds what it held. */
+typedef struct gv_written {
+    gv_refusal refusal;
+    size_t size;
+} gv_written;
+
+/* Writes the table of 48 numbers, of which number 0 is the version, at the start of the room; no later byte is touched. Numbers
+   for fields that the version lacks are not looked at. Refusals 4, 5, 8, 3, in this order. A version needs 78 bytes (0), 86 (1),
+   96 (2, 3, 4) or 100 (5). */
+gv_written gv_os2_write(const int64_t numbers[GV_FIELDS], uint8_t *room, size_t length);
+
+/* Reads a table at level 5 and writes its fields: the same bytes, up to its version's size. Table and room must not overlap.
+   Refusals 2, 3, then 4, 5. */
+gv_written gv_os2_rewrite(const uint8_t *table, size_t table_length, uint8_t *room, size_t length);
+
+#ifdef __cplusplus
+}
+#endif
+
+#endif
