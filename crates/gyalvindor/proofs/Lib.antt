@@ -1,1 +1,2 @@
 pub mod AnyLookups
+pub mod Tellings

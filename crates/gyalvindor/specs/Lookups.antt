@@ -16,16 +16,17 @@ use Rattle.name_lookup.specs.declared.Answer.{Answer}
 use Rattle.name_lookup.specs.declared.Answer.the-variants.{NoRecord}
 use Rattle.name_lookup.specs.declared.Numbered.the-variants.{Text, Refusal}
 
-unfoldable pub eitherAbove : ℕ → ℕ → Bool
-eitherAbove a b = ltb 65535 a || ltb 65535 b
+-- a number that is no part of a key
+unfoldable pub beyond : ℕ → Bool
+beyond x = ltb 65535 x
 
-unfoldable pub anyAbove : ℕ → ℕ → ℕ → ℕ → Bool
-anyAbove platform encoding language name = eitherAbove platform encoding || eitherAbove language name
+unfoldable pub anyBeyond : ℕ → ℕ → ℕ → ℕ → Bool
+anyBeyond platform encoding language name = (beyond platform || beyond encoding) || (beyond language || beyond name)
 
 -- 20 then, after the table's check
 unfoldable pub lookupAny : List ℕ → ℕ → ℕ → ℕ → ℕ → Answer
 lookupAny t platform encoding language name =
-    cond (anyAbove platform encoding language name) (afterCheck (checkOf t) NoRecord) (lookupOf t platform encoding language name)
+    cond (anyBeyond platform encoding language name) (afterCheck (checkOf t) NoRecord) (lookupOf t platform encoding language name)
 
 -- of any lookup, whatever the four numbers are: it answers start s and length m exactly when the table is accepted and a record has them, and s and m
 -- are its own

@@ -2,6 +2,7 @@
 // Document 01, whole; `include/gyalvindor.h` says the same to a C programmer.
 // Relies on `name`, `name_lookup` and `name_strings`, on `os2` and `os2_writer`, which answer; here an answer is put into words of C.
 ghost use mathlib.Core.Path.{_≡_};
+ghost use mathlib.Core.Bool.{_||_};
 ghost use mathlib.Core.Option.{none, some};
 ghost use lib.ListN.{length};
 ghost use Rattle.name.specs.Acceptance.{checkOf};
@@ -17,7 +18,7 @@ ghost use Rattle.os2.specs.Writing.{write, roomAfter};
 ghost use Rattle.os2_writer.specs.Replies as writer;
 ghost use Rattle.os2_writer.specs.Rewriting.{rewritten, roomRewritten};
 ghost use Rattle.gyalvindor.specs.Words.{refusalWords, noRefusal, carriedAt, verdictWords, textWords, versionWords, outcomeRefusal, numberWords, rightsWords, styleWords, opticalWords, writtenWords};
-ghost use Rattle.gyalvindor.specs.Lookups.{eitherAbove, anyAbove, lookupAny};
+ghost use Rattle.gyalvindor.specs.Lookups.{beyond, anyBeyond, lookupAny};
 use name::Place;
 use name::Verdict;
 use name_lookup::Answer;
@@ -400,7 +401,7 @@ fn verdict_words(verdict: Verdict) -> GvRefusal
 fn lookup_any(table: &[u8], platform: u32, encoding: u32, language: u32, name: u32) -> Answer
     ensures { λ r. ⌜ r ≡ lookupAny (now (table .entry)) platform encoding language name ⌝ }
 {
-    if any_above(platform, encoding, language, name) {
+    if any_beyond(platform, encoding, language, name) {
         return in_no_record(table);
     }
     name_lookup::lookup(
@@ -412,14 +413,14 @@ fn lookup_any(table: &[u8], platform: u32, encoding: u32, language: u32, name: u
     )
 }
 
-fn any_above(platform: u32, encoding: u32, language: u32, name: u32) -> bool
-    ensures { λ r. ⌜ r ≡ anyAbove platform encoding language name ⌝ }
+fn any_beyond(platform: u32, encoding: u32, language: u32, name: u32) -> bool
+    ensures { λ r. ⌜ r ≡ anyBeyond platform encoding language name ⌝ }
 {
-    either_above(platform, encoding) || either_above(language, name)
+    either_beyond(platform, encoding) || either_beyond(language, name)
 }
 
-fn either_above(a: u32, b: u32) -> bool
-    ensures { λ r. ⌜ r ≡ eitherAbove a b ⌝ }
+fn either_beyond(a: u32, b: u32) -> bool
+    ensures { λ r. ⌜ r ≡ (beyond a || beyond b) ⌝ }
 {
     65535 < a || 65535 < b
 }

@@ -3,26 +3,26 @@
 use mathlib.Core.Path.{_≡_, sym, _∙_}
 use mathlib.Core.Bool.{false}
 use native.Mathlib.Omega.{arith}
-use Rattle.gyalvindor.specs.Lookups.{anyAbove}
+use Rattle.gyalvindor.specs.Lookups.{anyBeyond}
 use Rattle.gyalvindor.proofs.AnyLookups.{Small, small-exactly, any-none, any-plain}
 use borrow.Author.Needs.{needs}
 use Rattle.gyalvindor.proofs.lookup_any.Statement.{statement}
 use Rattle.gyalvindor.proofs.lookup_any.Tie as tie
 
-plain : (c : tie.Else1) → anyAbove (c .before .before .before .args .platform) (c .before .before .before .args .encoding) (c .before .before .before .args .language) (c .before .before .before .args .name) ≡ false
-plain c = sym (c .before .any-above .ensures) ∙ c .if1 .left
+plain : (c : tie.Else1) → anyBeyond (c .before .before .before .args .platform) (c .before .before .before .args .encoding) (c .before .before .before .args .language) (c .before .before .before .args .name) ≡ false
+plain c = sym (c .before .any-beyond .ensures) ∙ c .if1 .left
 
 small : (c : tie.Else1) → Small (c .before .before .before .args .platform) (c .before .before .before .args .encoding) (c .before .before .before .args .language) (c .before .before .before .args .name)
 small c = small-exactly _ _ _ _ .0 (plain c)
 
-any-above-requires : tie.Need-any-above-requires
-any-above-requires c κs = search needs
+any-beyond-requires : tie.Need-any-beyond-requires
+any-beyond-requires c κs = search needs
 
 in-no-record-requires : tie.Need-in-no-record-requires
 in-no-record-requires c κs = search needs
 
 returns : tie.Need-returns
-returns c = c .in-no-record .ensures ∙ sym (any-none _ _ _ _ _ (sym (c .before .before .any-above .ensures) ∙ c .before .if1 .taken))
+returns c = c .in-no-record .ensures ∙ sym (any-none _ _ _ _ _ (sym (c .before .before .any-beyond .ensures) ∙ c .before .if1 .taken))
 
 cast-lookup : tie.Need-cast-lookup
 cast-lookup c = record { fits = omega (arith, small c) }
@@ -46,7 +46,7 @@ pub lookup-any-spec : {M : Type 1} → statement M
 lookup-any-spec =
     tie.close
     (tie.spec
-    any-above-requires
+    any-beyond-requires
     in-no-record-requires
     returns
     cast-lookup
