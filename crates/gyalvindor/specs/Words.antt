@@ -40,6 +40,7 @@ abbrev pub carriedAt : Place → Option ℕ
 carriedAt Nowhere = none
 carriedAt (At i) = some i
 
+-- what the check of a table says
 unfoldable pub verdictWords : Verdict → GvRefusal
 verdictWords Accepted = noRefusal
 verdictWords (Refused r) = refusalWords (numberOf r) (carriedAt (placeOf r))
@@ -56,6 +57,7 @@ versionWords (version.Refusal n p) = record { refusal = refusalWords n (carriedA
 
 -- ---- 'OS/2' tables
 
+-- the refusal in what the check, the reader or the writer says
 unfoldable pub outcomeRefusal : {A : Type 0} → Outcome A → GvRefusal
 outcomeRefusal (refused n c) = refusalWords n c
 outcomeRefusal (answered a) = noRefusal
@@ -80,6 +82,7 @@ pub record Members : Type 0 where
 abbrev nought : Float
 nought = ofBits binary32 0
 
+-- the members in their order
 abbrev row : ℕ → ℤ → ℕ → Float → Float → ℕ → Float → Float → Members
 row k x r w p s l u = record { kind = k; number = x; rights = r; weight = w; width = p; sizes = s; lower = l; upper = u }
 
@@ -95,6 +98,7 @@ membersOf (answered (value (sizes every))) = row 1 (pos 0) 0 nought nought 1 nou
 membersOf (answered (value (sizes (upwards l)))) = row 1 (pos 0) 0 nought nought 2 l nought
 membersOf (answered (value (sizes (between l u)))) = row 1 (pos 0) 0 nought nought 3 l u
 
+-- of a field or a bit
 unfoldable pub numberWords : Outcome Said → GvNumber
 numberWords o = record { refusal = outcomeRefusal o; kind = membersOf o .kind; value = membersOf o .number }
 

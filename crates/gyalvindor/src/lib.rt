@@ -17,7 +17,7 @@ ghost use Rattle.os2.specs.Replies as reader;
 ghost use Rattle.os2.specs.Writing.{write, roomAfter};
 ghost use Rattle.os2_writer.specs.Replies as writer;
 ghost use Rattle.os2_writer.specs.Rewriting.{rewritten, roomRewritten};
-ghost use Rattle.gyalvindor.specs.Words.{refusalWords, noRefusal, carriedAt, verdictWords, textWords, versionWords, outcomeRefusal, numberWords, rightsWords, styleWords, opticalWords, writtenWords};
+ghost use Rattle.gyalvindor.specs.Words.{refusalWords, carriedAt, verdictWords, textWords, versionWords, outcomeRefusal, numberWords, rightsWords, styleWords, opticalWords, writtenWords};
 ghost use Rattle.gyalvindor.specs.Lookups.{beyond, anyBeyond, lookupAny};
 use name::Place;
 use name::Verdict;
@@ -46,6 +46,12 @@ pub struct GvRefusal {
     pub carries: u32,
     pub carried: usize,
 }
+
+const NO_REFUSAL: GvRefusal = GvRefusal {
+    number: 0,
+    carries: 0,
+    carried: 0,
+};
 
 // The answer of a lookup and of the PostScript question: the string's start and length.
 #[repr(C)]
@@ -326,12 +332,6 @@ pub extern "C" fn gv_os2_rewrite(table: &[u8], room: &mut [u8]) -> GvWritten
 
 // ---- refusals in words
 
-fn no_refusal() -> GvRefusal
-    ensures { λ r. ⌜ r ≡ noRefusal ⌝ }
-{
-    bare(0)
-}
-
 // A refusal that carries nothing.
 fn bare(number: u32) -> GvRefusal
     ensures { λ r. ⌜ r ≡ refusalWords number none ⌝ }
@@ -378,11 +378,12 @@ fn unread(why: os2::Refusal) -> GvRefusal
 fn unwritten(why: WriteRefusal) -> GvRefusal
     ensures { λ r. ⌜ r ≡ refusalWords (writer.refusalNumber why) (writer.refusalCarries why) ⌝ }
 {
+    let number = why.number();
     match why {
-        WriteRefusal::NoVersion => bare(4),
-        WriteRefusal::NoRoom => bare(5),
-        WriteRefusal::DoesNotFit(field) => carrying(8, field as usize),
-        WriteRefusal::RuleBroken(rule) => carrying(3, rule as usize),
+        WriteRefusal::NoVersion => bare(number),
+        WriteRefusal::NoRoom => bare(number),
+        WriteRefusal::DoesNotFit(field) => carrying(number, field as usize),
+        WriteRefusal::RuleBroken(rule) => carrying(number, rule as usize),
     }
 }
 
@@ -392,7 +393,7 @@ fn verdict_words(verdict: Verdict) -> GvRefusal
     ensures { λ r. ⌜ r ≡ verdictWords verdict ⌝ }
 {
     match verdict {
-        Verdict::Accepted => no_refusal(),
+        Verdict::Accepted => NO_REFUSAL,
         Verdict::Refused(why) => at_place(why.number(), why.place()),
     }
 }
@@ -413,6 +414,7 @@ fn lookup_any(table: &[u8], platform: u32, encoding: u32, language: u32, name: u
     )
 }
 
+// Whether one of them is no part of a key.
 fn any_beyond(platform: u32, encoding: u32, language: u32, name: u32) -> bool
     ensures { λ r. ⌜ r ≡ anyBeyond platform encoding language name ⌝ }
 {
@@ -439,7 +441,7 @@ fn text_words(answer: Numbered) -> GvText
     ensures { λ r. ⌜ r ≡ textWords answer ⌝ }
 {
     match answer {
-        Numbered::Text(start, length) => GvText::new(no_refusal(), start, length),
+        Numbered::Text(start, length) => GvText::new(NO_REFUSAL, start, length),
         Numbered::Refusal(number, place) => GvText::new(at_place(number, place), 0, 0),
     }
 }
@@ -449,7 +451,7 @@ fn version_words(answer: NumberedVersion) -> GvVersion
 {
     match answer {
         NumberedVersion::Number(major, minor) => {
-            GvVersion::new(no_refusal(), major as u32, minor as u32)
+            GvVersion::new(NO_REFUSAL, major as u32, minor as u32)
         }
         NumberedVersion::Refusal(number, place) => GvVersion::new(at_place(number, place), 0, 0),
     }
@@ -461,7 +463,7 @@ fn checked_words(checked: Checked) -> GvRefusal
     ensures { λ r. ⌜ r ≡ outcomeRefusal (reader.saidCheck checked) ⌝ }
 {
     match checked {
-        Checked::Accepted => no_refusal(),
+        Checked::Accepted => NO_REFUSAL,
         Checked::Refused(why) => unread(why),
     }
 }
@@ -472,9 +474,9 @@ fn number_words(reply: Reply) -> GvNumber
     match reply {
         Reply::Refused(why) => GvNumber::new(unread(why), REFUSED, 0),
         Reply::Answered(answer) => match answer {
-            os2::Answer::Value(value) => GvNumber::new(no_refusal(), VALUE, value),
-            os2::Answer::Absent => GvNumber::new(no_refusal(), ABSENT, 0),
-            os2::Answer::NotKnown => GvNumber::new(no_refusal(), NOT_KNOWN, 0),
+            os2::Answer::Value(value) => GvNumber::new(NO_REFUSAL, VALUE, value),
+            os2::Answer::Absent => GvNumber::new(NO_REFUSAL, ABSENT, 0),
+            os2::Answer::NotKnown => GvNumber::new(NO_REFUSAL, NOT_KNOWN, 0),
         },
     }
 }
@@ -485,9 +487,9 @@ fn rights_words(reply: RightsReply) -> GvRights
     match reply {
         RightsReply::Refused(why) => GvRights::new(unread(why), REFUSED, 0),
         RightsReply::Answered(answer) => match answer {
-            RightsAnswer::Value(rights) => GvRights::new(no_refusal(), VALUE, rights.number()),
-            RightsAnswer::Absent => GvRights::new(no_refusal(), ABSENT, 0),
-            RightsAnswer::NotKnown => GvRights::new(no_refusal(), NOT_KNOWN, 0),
+            RightsAnswer::Value(rights) => GvRights::new(NO_REFUSAL, VALUE, rights.number()),
+            RightsAnswer::Absent => GvRights::new(NO_REFUSAL, ABSENT, 0),
+            RightsAnswer::NotKnown => GvRights::new(NO_REFUSAL, NOT_KNOWN, 0),
         },
     }
 }
@@ -499,10 +501,10 @@ fn style_words(reply: StyleReply) -> GvStyle
         StyleReply::Refused(why) => GvStyle::new(unread(why), REFUSED, 0.0, 0.0),
         StyleReply::Answered(answer) => match answer {
             StyleAnswer::Value(position) => {
-                GvStyle::new(no_refusal(), VALUE, position.weight, position.width)
+                GvStyle::new(NO_REFUSAL, VALUE, position.weight, position.width)
             }
-            StyleAnswer::Absent => GvStyle::new(no_refusal(), ABSENT, 0.0, 0.0),
-            StyleAnswer::NotKnown => GvStyle::new(no_refusal(), NOT_KNOWN, 0.0, 0.0),
+            StyleAnswer::Absent => GvStyle::new(NO_REFUSAL, ABSENT, 0.0, 0.0),
+            StyleAnswer::NotKnown => GvStyle::new(NO_REFUSAL, NOT_KNOWN, 0.0, 0.0),
         },
     }
 }
@@ -514,8 +516,8 @@ fn optical_words(reply: OpticalReply) -> GvOptical
         OpticalReply::Refused(why) => GvOptical::new(unread(why), REFUSED, NO_SIZES, 0.0, 0.0),
         OpticalReply::Answered(answer) => match answer {
             OpticalAnswer::Value(found) => sizes_words(found),
-            OpticalAnswer::Absent => GvOptical::new(no_refusal(), ABSENT, NO_SIZES, 0.0, 0.0),
-            OpticalAnswer::NotKnown => GvOptical::new(no_refusal(), NOT_KNOWN, NO_SIZES, 0.0, 0.0),
+            OpticalAnswer::Absent => GvOptical::new(NO_REFUSAL, ABSENT, NO_SIZES, 0.0, 0.0),
+            OpticalAnswer::NotKnown => GvOptical::new(NO_REFUSAL, NOT_KNOWN, NO_SIZES, 0.0, 0.0),
         },
     }
 }
@@ -524,10 +526,10 @@ fn sizes_words(found: OpticalSizes) -> GvOptical
     ensures { λ r. ⌜ r ≡ opticalWords (answered (value (sizes (saidSizes found)))) ⌝ }
 {
     match found {
-        OpticalSizes::Every => GvOptical::new(no_refusal(), VALUE, EVERY, 0.0, 0.0),
-        OpticalSizes::Upwards(lower) => GvOptical::new(no_refusal(), VALUE, UPWARDS, lower, 0.0),
+        OpticalSizes::Every => GvOptical::new(NO_REFUSAL, VALUE, EVERY, 0.0, 0.0),
+        OpticalSizes::Upwards(lower) => GvOptical::new(NO_REFUSAL, VALUE, UPWARDS, lower, 0.0),
         OpticalSizes::Between(lower, upper) => {
-            GvOptical::new(no_refusal(), VALUE, BETWEEN, lower, upper)
+            GvOptical::new(NO_REFUSAL, VALUE, BETWEEN, lower, upper)
         }
     }
 }
@@ -538,7 +540,7 @@ fn written_words(done: Written) -> GvWritten
     ensures { λ r. ⌜ r ≡ writtenWords (writer.saidWritten done) ⌝ }
 {
     match done {
-        Written::Size(size) => GvWritten::new(no_refusal(), size),
+        Written::Size(size) => GvWritten::new(NO_REFUSAL, size),
         Written::Refused(why) => GvWritten::new(unwritten(why), 0),
     }
 }
@@ -547,7 +549,7 @@ fn rewritten_words(done: Rewritten) -> GvWritten
     ensures { λ r. ⌜ r ≡ writtenWords (writer.saidRewritten done) ⌝ }
 {
     match done {
-        Rewritten::Size(size) => GvWritten::new(no_refusal(), size),
+        Rewritten::Size(size) => GvWritten::new(NO_REFUSAL, size),
         Rewritten::Unread(why) => GvWritten::new(unread(why), 0),
         Rewritten::Unwritten(why) => GvWritten::new(unwritten(why), 0),
     }

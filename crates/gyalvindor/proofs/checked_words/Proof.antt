@@ -8,9 +8,6 @@ use Rattle.gyalvindor.proofs.checked_words.Tie as tie
 enum-told : tie.Need-enum-told
 enum-told c = search needs
 
-no-refusal-requires : tie.Need-no-refusal-requires
-no-refusal-requires c κs = search needs
-
 enum-known-checked : tie.Need-enum-known-checked
 enum-known-checked c = search needs
 
@@ -19,7 +16,7 @@ unread-requires c κs = search needs
 
 returns : tie.Need-returns
 unfolding outcomeRefusal
-returns c = rw (c .before .enum-told .given .1, c .no-refusal .ensures)
+returns c = rw (c .enum-told .given .1)
 
 returns-2 : tie.Need-returns-2
 unfolding outcomeRefusal
@@ -28,4 +25,4 @@ returns-2 c = rw (c .before .before .checked .given .1, c .unread .ensures)
 pub checked-words-spec : {M : Type 1} → statement M
 checked-words-spec =
     tie.close
-    (tie.spec enum-told no-refusal-requires enum-known-checked unread-requires returns returns-2)
+    (tie.spec enum-told enum-known-checked unread-requires returns returns-2)

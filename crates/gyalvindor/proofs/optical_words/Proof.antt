@@ -30,17 +30,11 @@ sizes-words-requires c κs = search needs
 enum-told : tie.Need-enum-told
 enum-told c = search needs
 
-no-refusal-requires : tie.Need-no-refusal-requires
-no-refusal-requires c κs = search needs
-
 new-requires-2 : tie.Need-new-requires-2
 new-requires-2 c κs = search needs
 
 enum-told-2 : tie.Need-enum-told-2
 enum-told-2 c = search needs
-
-no-refusal-requires-2 : tie.Need-no-refusal-requires-2
-no-refusal-requires-2 c κs = search needs
 
 new-requires-3 : tie.Need-new-requires-3
 new-requires-3 c κs = search needs
@@ -55,11 +49,11 @@ returns-2 c = c .sizes-words .ensures ∙ ap opticalWords (sym (ap saidOpticalRe
 
 returns-3 : tie.Need-returns-3
 unfolding outcomeRefusal membersOf opticalWords
-returns-3 c = rw (c .before .before .before .before .before .reply2 .given .1, c .before .before .enum-told .given .1, c .new2 .ensures, c .before .no-refusal .ensures)
+returns-3 c = rw (c .before .before .before .before .reply2 .given .1, c .before .enum-told .given .1, c .new2 .ensures)
 
 returns-4 : tie.Need-returns-4
 unfolding outcomeRefusal membersOf opticalWords
-returns-4 c = rw (c .before .before .before .before .before .reply2 .given .1, c .before .before .enum-told2 .given .1, c .new3 .ensures, c .before .no-refusal2 .ensures)
+returns-4 c = rw (c .before .before .before .before .reply2 .given .1, c .before .enum-told2 .given .1, c .new3 .ensures)
 
 pub optical-words-spec : {M : Type 1} → statement M
 optical-words-spec =
@@ -72,10 +66,8 @@ optical-words-spec =
     enum-known-answer
     sizes-words-requires
     enum-told
-    no-refusal-requires
     new-requires-2
     enum-told-2
-    no-refusal-requires-2
     new-requires-3
     returns
     returns-2

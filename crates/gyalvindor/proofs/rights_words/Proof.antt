@@ -20,9 +20,6 @@ enum-known-reply-2 c = search needs
 enum-known-answer : tie.Need-enum-known-answer
 enum-known-answer c = search needs
 
-no-refusal-requires : tie.Need-no-refusal-requires
-no-refusal-requires c κs = search needs
-
 number-requires : tie.Need-number-requires
 number-requires c κs = search needs
 
@@ -32,17 +29,11 @@ new-requires-2 c κs = search needs
 enum-told : tie.Need-enum-told
 enum-told c = search needs
 
-no-refusal-requires-2 : tie.Need-no-refusal-requires-2
-no-refusal-requires-2 c κs = search needs
-
 new-requires-3 : tie.Need-new-requires-3
 new-requires-3 c κs = search needs
 
 enum-told-2 : tie.Need-enum-told-2
 enum-told-2 c = search needs
-
-no-refusal-requires-3 : tie.Need-no-refusal-requires-3
-no-refusal-requires-3 c κs = search needs
 
 new-requires-4 : tie.Need-new-requires-4
 new-requires-4 c κs = search needs
@@ -53,15 +44,15 @@ returns c = rw (c .before .before .before .reply .given .1, c .new .ensures, c .
 
 returns-2 : tie.Need-returns-2
 unfolding outcomeRefusal membersOf rightsWords
-returns-2 c = rw (c .before .before .before .before .before .before .before .reply2 .given .1, c .before .before .before .before .answer .given .1, c .new2 .ensures, c .before .before .no-refusal .ensures, c .before .number .ensures)
+returns-2 c = rw (c .before .before .before .before .before .before .reply2 .given .1, c .before .before .before .answer .given .1, c .new2 .ensures, c .before .number .ensures)
 
 returns-3 : tie.Need-returns-3
 unfolding outcomeRefusal membersOf rightsWords
-returns-3 c = rw (c .before .before .before .before .before .reply2 .given .1, c .before .before .enum-told .given .1, c .new3 .ensures, c .before .no-refusal2 .ensures)
+returns-3 c = rw (c .before .before .before .before .reply2 .given .1, c .before .enum-told .given .1, c .new3 .ensures)
 
 returns-4 : tie.Need-returns-4
 unfolding outcomeRefusal membersOf rightsWords
-returns-4 c = rw (c .before .before .before .before .before .reply2 .given .1, c .before .before .enum-told2 .given .1, c .new4 .ensures, c .before .no-refusal3 .ensures)
+returns-4 c = rw (c .before .before .before .before .reply2 .given .1, c .before .enum-told2 .given .1, c .new4 .ensures)
 
 pub rights-words-spec : {M : Type 1} → statement M
 rights-words-spec =
@@ -72,14 +63,11 @@ rights-words-spec =
     new-requires
     enum-known-reply-2
     enum-known-answer
-    no-refusal-requires
     number-requires
     new-requires-2
     enum-told
-    no-refusal-requires-2
     new-requires-3
     enum-told-2
-    no-refusal-requires-3
     new-requires-4
     returns
     returns-2

@@ -8,17 +8,11 @@ use Rattle.gyalvindor.proofs.sizes_words.Tie as tie
 enum-told : tie.Need-enum-told
 enum-told c = search needs
 
-no-refusal-requires : tie.Need-no-refusal-requires
-no-refusal-requires c κs = search needs
-
 new-requires : tie.Need-new-requires
 new-requires c κs = search needs
 
 enum-known-found : tie.Need-enum-known-found
 enum-known-found c = search needs
-
-no-refusal-requires-2 : tie.Need-no-refusal-requires-2
-no-refusal-requires-2 c κs = search needs
 
 new-requires-2 : tie.Need-new-requires-2
 new-requires-2 c κs = search needs
@@ -26,36 +20,30 @@ new-requires-2 c κs = search needs
 enum-known-found-2 : tie.Need-enum-known-found-2
 enum-known-found-2 c = search needs
 
-no-refusal-requires-3 : tie.Need-no-refusal-requires-3
-no-refusal-requires-3 c κs = search needs
-
 new-requires-3 : tie.Need-new-requires-3
 new-requires-3 c κs = search needs
 
 returns : tie.Need-returns
 unfolding outcomeRefusal membersOf opticalWords
-returns c = rw (c .before .before .enum-told .given .1, c .new .ensures, c .before .no-refusal .ensures)
+returns c = rw (c .before .enum-told .given .1, c .new .ensures)
 
 returns-2 : tie.Need-returns-2
 unfolding outcomeRefusal membersOf opticalWords
-returns-2 c = rw (c .before .before .before .found .given .1, c .new2 .ensures, c .before .no-refusal2 .ensures)
+returns-2 c = rw (c .before .before .found .given .1, c .new2 .ensures)
 
 returns-3 : tie.Need-returns-3
 unfolding outcomeRefusal membersOf opticalWords
-returns-3 c = rw (c .before .before .before .found2 .given .1, c .new3 .ensures, c .before .no-refusal3 .ensures)
+returns-3 c = rw (c .before .before .found2 .given .1, c .new3 .ensures)
 
 pub sizes-words-spec : {M : Type 1} → statement M
 sizes-words-spec =
     tie.close
     (tie.spec
     enum-told
-    no-refusal-requires
     new-requires
     enum-known-found
-    no-refusal-requires-2
     new-requires-2
     enum-known-found-2
-    no-refusal-requires-3
     new-requires-3
     returns
     returns-2

@@ -8,9 +8,6 @@ use Rattle.gyalvindor.proofs.text_words.Tie as tie
 enum-known-answer : tie.Need-enum-known-answer
 enum-known-answer c = search needs
 
-no-refusal-requires : tie.Need-no-refusal-requires
-no-refusal-requires c κs = search needs
-
 new-requires : tie.Need-new-requires
 new-requires c κs = search needs
 
@@ -25,7 +22,7 @@ new-requires-2 c κs = search needs
 
 returns : tie.Need-returns
 unfolding textWords
-returns c = rw (c .before .before .before .answer .given .1, c .new .ensures, c .before .no-refusal .ensures)
+returns c = rw (c .before .before .answer .given .1, c .new .ensures)
 
 returns-2 : tie.Need-returns-2
 unfolding textWords
@@ -36,7 +33,6 @@ text-words-spec =
     tie.close
     (tie.spec
     enum-known-answer
-    no-refusal-requires
     new-requires
     enum-known-answer-2
     at-place-requires

@@ -8,9 +8,6 @@ use Rattle.gyalvindor.proofs.verdict_words.Tie as tie
 enum-told : tie.Need-enum-told
 enum-told c = search needs
 
-no-refusal-requires : tie.Need-no-refusal-requires
-no-refusal-requires c κs = search needs
-
 enum-known-verdict : tie.Need-enum-known-verdict
 enum-known-verdict c = search needs
 
@@ -25,7 +22,7 @@ at-place-requires c κs = search needs
 
 returns : tie.Need-returns
 unfolding verdictWords
-returns c = rw (c .before .enum-told .given .1, c .no-refusal .ensures)
+returns c = rw (c .enum-told .given .1)
 
 returns-2 : tie.Need-returns-2
 unfolding verdictWords
@@ -36,7 +33,6 @@ verdict-words-spec =
     tie.close
     (tie.spec
     enum-told
-    no-refusal-requires
     enum-known-verdict
     number-requires
     place-requires

@@ -8,9 +8,6 @@ use Rattle.gyalvindor.proofs.version_words.Tie as tie
 enum-known-answer : tie.Need-enum-known-answer
 enum-known-answer c = search needs
 
-no-refusal-requires : tie.Need-no-refusal-requires
-no-refusal-requires c κs = search needs
-
 cast-new : tie.Need-cast-new
 cast-new c = search needs
 
@@ -31,7 +28,7 @@ new-requires-2 c κs = search needs
 
 returns : tie.Need-returns
 unfolding versionWords
-returns c = rw (c .before .before .before .answer .given .1, c .new .ensures, c .before .no-refusal .ensures)
+returns c = rw (c .before .before .answer .given .1, c .new .ensures)
 
 returns-2 : tie.Need-returns-2
 unfolding versionWords
@@ -42,7 +39,6 @@ version-words-spec =
     tie.close
     (tie.spec
     enum-known-answer
-    no-refusal-requires
     cast-new
     cast-new-2
     new-requires

@@ -8,9 +8,6 @@ use Rattle.gyalvindor.proofs.written_words.Tie as tie
 enum-known-done : tie.Need-enum-known-done
 enum-known-done c = search needs
 
-no-refusal-requires : tie.Need-no-refusal-requires
-no-refusal-requires c κs = search needs
-
 new-requires : tie.Need-new-requires
 new-requires c κs = search needs
 
@@ -25,7 +22,7 @@ new-requires-2 c κs = search needs
 
 returns : tie.Need-returns
 unfolding writtenWords
-returns c = rw (c .before .before .before .done .given .1, c .new .ensures, c .before .no-refusal .ensures)
+returns c = rw (c .before .before .done .given .1, c .new .ensures)
 
 returns-2 : tie.Need-returns-2
 unfolding writtenWords
@@ -36,7 +33,6 @@ written-words-spec =
     tie.close
     (tie.spec
     enum-known-done
-    no-refusal-requires
     new-requires
     enum-known-done-2
     unwritten-requires
