@@ -1,0 +1,190 @@
+//! Questions on a 'name' table, formats 0 and 1.
+//!
+//! The table holds records. Each has a key of four numbers (platform, encoding, language, name) and the place of a string.
+//! In format 1 it also holds language tags, to which language numbers from 0x8000 upwards refer.
+//!
+//! Every question checks the whole table first and is refused where [`check`] is.
+
+use core::ops::Range;
+
+use crate::raw;
+use crate::Refusal;
+
+/// Where a string lies in the table.
+#[derive(Clone, Copy, Debug, PartialEq, Eq, Hash)]
+pub struct Text {
+    /// The string's first byte, counted from the table's first byte.
+    pub start: usize,
+    /// How many bytes it has.
+    pub length: usize,
+}
+
+impl Text {
+    /// The string's bytes, as a range in the table that was asked. It lies inside that table.
+    ///
+    /// ```
+    /// use gyalvindor::name::Text;
+    ///
+    /// assert_eq!(Text { start: 42, length: 2 }.range(), 42..44);
+    /// ```
+    pub const fn range(self) -> Range<usize> {
+        self.start..self.start + self.length
+    }
+}
+
+/// A version number, such as 2.5.
+#[derive(Clone, Copy, Debug, PartialEq, Eq, Hash)]
+pub struct Version {
+    /// The figure before the period, below 65,535.
+    pub major: u32,
+    /// The figure after the period, below 65,535.
+    pub minor: u32,
+}
+
+/// Is the table accepted?
+///
+/// # Errors
+///
+/// In this order: [`Refusal::NameTooShort`], [`Refusal::UnknownFormat`], [`Refusal::RecordsPassEnd`],
+/// [`Refusal::TagsPassEnd`], [`Refusal::StorageStart`]; then for each record [`Refusal::RecordString`],
+/// [`Refusal::Language`], [`Refusal::KeyOrder`]; then for each language tag [`Refusal::TagString`].
+///
+/// # Examples
+///
+/// ```
+/// use gyalvindor::{name, Refusal};
+///
+/// // Format 0, no records, storage at byte 6.
+/// assert_eq!(name::check(&[0, 0, 0, 0, 0, 6]), Ok(()));
+///
+/// // There is no format 2.
+/// assert_eq!(name::check(&[0, 2, 0, 0, 0, 6]), Err(Refusal::UnknownFormat));
+///
+/// // Two records with the same key, (1, 0, 0, 6), and empty strings.
+/// let table = [
+///     0, 0, 0, 2, 0, 30, //
+///     0, 1, 0, 0, 0, 0, 0, 6, 0, 0, 0, 0, //
+///     0, 1, 0, 0, 0, 0, 0, 6, 0, 0, 0, 0,
+/// ];
+/// assert_eq!(name::check(&table), Err(Refusal::KeyOrder { record: 1 }));
+/// ```
+pub fn check(table: &[u8]) -> Result<(), Refusal> {
+    Refusal::checked(raw::name_check(table))
+}
+
+/// The string of the record with this key. How its bytes are to be read depends on platform and encoding.
+///
+/// Any numbers may be asked for; a part above 65,535 is in no record.
+///
+/// # Errors
+///
+/// Those of [`check`], then [`Refusal::NoRecord`].
+///
+/// # Examples
+///
+/// ```
+/// use gyalvindor::{name, Refusal};
+///
+/// let table = [
+///     0, 0, 0, 1, 0, 18, // format 0, one record, storage starts at byte 18
+///     0, 3, 0, 1, 4, 9, 0, 1, 0, 4, 0, 0, // (3, 1, 0x409, 1), length 4, offset 0
+///     0, b'A', 0, b'b',
+/// ];
+///
+/// let family = name::lookup(&table, 3, 1, 0x409, 1)?;
+/// assert_eq!((family.start, family.length), (18, 4));
+/// assert_eq!(table[family.range()], [0, b'A', 0, b'b']);
+///
+/// assert_eq!(name::lookup(&table, 3, 1, 0x409, 2), Err(Refusal::NoRecord));
+/// assert_eq!(name::lookup(&table, 3 + 65_536, 1, 0x409, 1), Err(Refusal::NoRecord));
+/// # Ok::<(), Refusal>(())
+/// ```
+pub fn lookup(
+    table: &[u8],
+    platform: u32,
+    encoding: u32,
+    language: u32,
+    name: u32,
+) -> Result<Text, Refusal> {
+    text(raw::name_lookup(
+        table,
+        [platform, encoding, language, name],
+    ))
+}
+
+/// The PostScript name: the string of the record (1, 0, 0, 6), one byte a character.
+///
+/// A font states it twice, there and in the record (3, 1, 0x409, 6) with two bytes a character, and both have to be there,
+/// well formed and equal. Well formed means 1 to 63 characters with codes 33 to 126, without `[ ] ( ) { } < > / %`.
+///
+/// # Errors
+///
+/// Those of [`check`], then [`Refusal::NoPostScriptRecord`], [`Refusal::OnePostScriptRecord`],
+/// [`Refusal::PostScriptIllFormed`], [`Refusal::PostScriptDiffer`].
+///
+/// # Examples
+///
+/// ```
+/// use gyalvindor::{name, Refusal};
+///
+/// let mut table = [
+///     0, 0, 0, 2, 0, 30, // format 0, two records, storage starts at byte 30
+///     0, 1, 0, 0, 0, 0, 0, 6, 0, 2, 0, 0, // (1, 0, 0, 6), length 2, offset 0
+///     0, 3, 0, 1, 4, 9, 0, 6, 0, 4, 0, 2, // (3, 1, 0x409, 6), length 4, offset 2
+///     b'A', b'b', 0, b'A', 0, b'b',
+/// ];
+/// let text = name::postscript(&table)?;
+/// assert_eq!(&table[text.range()], b"Ab");
+///
+/// table[31] = b'c';
+/// assert_eq!(name::postscript(&table), Err(Refusal::PostScriptDiffer));
+/// table[31] = b' ';
+/// assert_eq!(name::postscript(&table), Err(Refusal::PostScriptIllFormed));
+/// # Ok::<(), Refusal>(())
+/// ```
+pub fn postscript(table: &[u8]) -> Result<Text, Refusal> {
+    text(raw::name_postscript(table))
+}
+
+/// The version number in the version string: the string of (3, 1, 0x409, 5), or of (1, 0, 0, 5) where that record is not
+/// there.
+///
+/// A number is digits, a period, digits, each group as long as it goes and below 65,535. The first place from the left that
+/// yields a number wins.
+///
+/// # Errors
+///
+/// Those of [`check`], then [`Refusal::NoRecord`] where neither record is there, then [`Refusal::NoVersionNumber`].
+///
+/// # Examples
+///
+/// ```
+/// use gyalvindor::name::{self, Version};
+/// use gyalvindor::Refusal;
+///
+/// let mut table = vec![
+///     0, 0, 0, 1, 0, 18, // format 0, one record, storage starts at byte 18
+///     0, 1, 0, 0, 0, 0, 0, 5, 0, 19, 0, 0, // (1, 0, 0, 5), length 19, offset 0
+/// ];
+/// table.extend(b"Version 1.70000 2.5");
+/// assert_eq!(name::version(&table), Ok(Version { major: 2, minor: 5 }));
+///
+/// table[15] = 15; // the string is `Version 1.70000`
+/// assert_eq!(name::version(&table), Err(Refusal::NoVersionNumber));
+/// ```
+pub fn version(table: &[u8]) -> Result<Version, Refusal> {
+    let raw = raw::name_version(table);
+    Refusal::checked(raw.refusal)?;
+    Ok(Version {
+        major: raw.major,
+        minor: raw.minor,
+    })
+}
+
+fn text(raw: raw::Text) -> Result<Text, Refusal> {
+    Refusal::checked(raw.refusal)?;
+    Ok(Text {
+        start: raw.start,
+        length: raw.length,
+    })
+}

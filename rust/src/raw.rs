@@ -1,0 +1,194 @@
+//! The archive's functions as C sees them, and one safe function for each.
+//!
+//! The layouts and the order of the members are those of `include/gyalvindor.h`. This is the only module with unsafe code.
+//!
+//! What makes every call below sound is the same. A slice lends `len()` bytes that nobody changes (or, for the room, that
+//! nobody else touches) until the call is over, and its pointer is never null, also where the slice is empty. The library
+//! reads only the table and the 48 numbers, writes only the room, keeps no pointer, and answers whatever the bytes and
+//! numbers are.
+
+/// `gv_refusal`.
+#[repr(C)]
+#[derive(Clone, Copy)]
+pub(crate) struct Refusal {
+    pub(crate) number: u32,
+    pub(crate) carries: u32,
+    pub(crate) carried: usize,
+}
+
+/// `gv_text`.
+#[repr(C)]
+#[derive(Clone, Copy)]
+pub(crate) struct Text {
+    pub(crate) refusal: Refusal,
+    pub(crate) start: usize,
+    pub(crate) length: usize,
+}
+
+/// `gv_version`.
+#[repr(C)]
+#[derive(Clone, Copy)]
+pub(crate) struct Version {
+    pub(crate) refusal: Refusal,
+    pub(crate) major: u32,
+    pub(crate) minor: u32,
+}
+
+/// `gv_number`.
+#[repr(C)]
+#[derive(Clone, Copy)]
+pub(crate) struct Number {
+    pub(crate) refusal: Refusal,
+    pub(crate) kind: u32,
+    pub(crate) value: i64,
+}
+
+/// `gv_rights`.
+#[repr(C)]
+#[derive(Clone, Copy)]
+pub(crate) struct Rights {
+    pub(crate) refusal: Refusal,
+    pub(crate) kind: u32,
+    pub(crate) rights: u32,
+}
+
+/// `gv_style`.
+#[repr(C)]
+#[derive(Clone, Copy)]
+pub(crate) struct Style {
+    pub(crate) refusal: Refusal,
+    pub(crate) kind: u32,
+    pub(crate) weight: f32,
+    pub(crate) width: f32,
+}
+
+/// `gv_optical`.
+#[repr(C)]
+#[derive(Clone, Copy)]
+pub(crate) struct Optical {
+    pub(crate) refusal: Refusal,
+    pub(crate) kind: u32,
+    pub(crate) sizes: u32,
+    pub(crate) lower: f32,
+    pub(crate) upper: f32,
+}
+
+/// `gv_written`.
+#[repr(C)]
+#[derive(Clone, Copy)]
+pub(crate) struct Written {
+    pub(crate) refusal: Refusal,
+    pub(crate) size: usize,
+}
+
+// SAFETY: these are the fourteen functions of `include/gyalvindor.h`, with the types given there.
+unsafe extern "C" {
+    fn gv_name_check(table: *const u8, length: usize) -> Refusal;
+    fn gv_name_lookup(
+        table: *const u8,
+        length: usize,
+        platform: u32,
+        encoding: u32,
+        language: u32,
+        name: u32,
+    ) -> Text;
+    fn gv_name_postscript(table: *const u8, length: usize) -> Text;
+    fn gv_name_version(table: *const u8, length: usize) -> Version;
+    fn gv_os2_check(table: *const u8, length: usize, level: u32) -> Refusal;
+    fn gv_os2_field(table: *const u8, length: usize, level: u32, number: u32) -> Number;
+    fn gv_os2_selection_bit(table: *const u8, length: usize, level: u32, number: u32) -> Number;
+    fn gv_os2_unicode_bit(table: *const u8, length: usize, level: u32, number: u32) -> Number;
+    fn gv_os2_code_page_bit(table: *const u8, length: usize, level: u32, number: u32) -> Number;
+    fn gv_os2_rights(table: *const u8, length: usize, level: u32) -> Rights;
+    fn gv_os2_style_position(table: *const u8, length: usize, level: u32) -> Style;
+    fn gv_os2_optical_sizes(table: *const u8, length: usize, level: u32) -> Optical;
+    fn gv_os2_write(numbers: *const i64, room: *mut u8, length: usize) -> Written;
+    fn gv_os2_rewrite(
+        table: *const u8,
+        table_length: usize,
+        room: *mut u8,
+        length: usize,
+    ) -> Written;
+}
+
+pub(crate) fn name_check(table: &[u8]) -> Refusal {
+    // SAFETY: the slice lends `len()` readable bytes from a pointer that is not null.
+    unsafe { gv_name_check(table.as_ptr(), table.len()) }
+}
+
+pub(crate) fn name_lookup(table: &[u8], key: [u32; 4]) -> Text {
+    let [platform, encoding, language, name] = key;
+    // SAFETY: the slice lends `len()` readable bytes from a pointer that is not null; any four numbers may be asked for.
+    unsafe {
+        gv_name_lookup(
+            table.as_ptr(),
+            table.len(),
+            platform,
+            encoding,
+            language,
+            name,
+        )
+    }
+}
+
+pub(crate) fn name_postscript(table: &[u8]) -> Text {
+    // SAFETY: the slice lends `len()` readable bytes from a pointer that is not null.
+    unsafe { gv_name_postscript(table.as_ptr(), table.len()) }
+}
+
+pub(crate) fn name_version(table: &[u8]) -> Version {
+    // SAFETY: the slice lends `len()` readable bytes from a pointer that is not null.
+    unsafe { gv_name_version(table.as_ptr(), table.len()) }
+}
+
+pub(crate) fn os2_check(table: &[u8], level: u32) -> Refusal {
+    // SAFETY: the slice lends `len()` readable bytes from a pointer that is not null; any level may be given.
+    unsafe { gv_os2_check(table.as_ptr(), table.len(), level) }
+}
+
+pub(crate) fn os2_field(table: &[u8], level: u32, number: u32) -> Number {
+    // SAFETY: the slice lends `len()` readable bytes from a pointer that is not null; any level and number may be given.
+    unsafe { gv_os2_field(table.as_ptr(), table.len(), level, number) }
+}
+
+pub(crate) fn os2_selection_bit(table: &[u8], level: u32, number: u32) -> Number {
+    // SAFETY: the slice lends `len()` readable bytes from a pointer that is not null; any level and number may be given.
+    unsafe { gv_os2_selection_bit(table.as_ptr(), table.len(), level, number) }
+}
+
+pub(crate) fn os2_unicode_bit(table: &[u8], level: u32, number: u32) -> Number {
+    // SAFETY: the slice lends `len()` readable bytes from a pointer that is not null; any level and number may be given.
+    unsafe { gv_os2_unicode_bit(table.as_ptr(), table.len(), level, number) }
+}
+
+pub(crate) fn os2_code_page_bit(table: &[u8], level: u32, number: u32) -> Number {
+    // SAFETY: the slice lends `len()` readable bytes from a pointer that is not null; any level and number may be given.
+    unsafe { gv_os2_code_page_bit(table.as_ptr(), table.len(), level, number) }
+}
+
+pub(crate) fn os2_rights(table: &[u8], level: u32) -> Rights {
+    // SAFETY: the slice lends `len()` readable bytes from a pointer that is not null; any level may be given.
+    unsafe { gv_os2_rights(table.as_ptr(), table.len(), level) }
+}
+
+pub(crate) fn os2_style_position(table: &[u8], level: u32) -> Style {
+    // SAFETY: the slice lends `len()` readable bytes from a pointer that is not null; any level may be given.
+    unsafe { gv_os2_style_position(table.as_ptr(), table.len(), level) }
+}
+
+pub(crate) fn os2_optical_sizes(table: &[u8], level: u32) -> Optical {
+    // SAFETY: the slice lends `len()` readable bytes from a pointer that is not null; any level may be given.
+    unsafe { gv_os2_optical_sizes(table.as_ptr(), table.len(), level) }
+}
+
+pub(crate) fn os2_write(numbers: &[i64; 48], room: &mut [u8]) -> Written {
+    // SAFETY: the array lends exactly the 48 numbers that are read. The room lends `len()` writable bytes that nothing else
+    // refers to, from a pointer that is not null, so it cannot overlap the numbers.
+    unsafe { gv_os2_write(numbers.as_ptr(), room.as_mut_ptr(), room.len()) }
+}
+
+pub(crate) fn os2_rewrite(table: &[u8], room: &mut [u8]) -> Written {
+    // SAFETY: the table lends `len()` readable bytes. The room lends `len()` writable bytes that nothing else refers to, so
+    // it does not overlap the table. Neither pointer is null.
+    unsafe { gv_os2_rewrite(table.as_ptr(), table.len(), room.as_mut_ptr(), room.len()) }
+}
