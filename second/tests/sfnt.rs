@@ -41,11 +41,16 @@ fn single_fonts() {
         assert_eq!(sfnt::os2(&file), Some(&os2[..]));
         assert_eq!(sfnt::table(&file, *b"cmap"), Some(&[1][..]));
         assert_eq!(sfnt::table(&file, *b"head"), None);
+        assert_eq!(sfnt::fonts(&file), 1);
+        assert_eq!(sfnt::table_of(&file, 0, *b"cmap"), Some(&[1][..]));
+        assert_eq!(sfnt::table_of(&file, 1, *b"cmap"), None);
         let lines = listing::font(5, &file);
         assert_eq!(lines, listing::name(&name) + &listing::os2(5, &os2));
     }
     let file = font(b"wOFF", 0, &[(b"OS/2", &os2)]);
     assert_eq!(sfnt::os2(&file), None);
+    assert_eq!(sfnt::fonts(&file), 0);
+    assert_eq!(sfnt::fonts(&[]), 0);
 }
 
 #[test]
@@ -63,6 +68,11 @@ fn collections_give_their_first_font() {
     file.extend(font(FORMS[1], file.len(), &[(b"name", &other)]));
     assert_eq!(sfnt::name(&file), Some(&name[..]));
     assert_eq!(sfnt::os2(&file), None);
+    // Each font by its number.
+    assert_eq!(sfnt::fonts(&file), 2);
+    assert_eq!(sfnt::table_of(&file, 0, *b"name"), Some(&name[..]));
+    assert_eq!(sfnt::table_of(&file, 1, *b"name"), Some(&other[..]));
+    assert_eq!(sfnt::table_of(&file, 2, *b"name"), None);
     // Fonts taken in the other order.
     file[12..16].copy_from_slice(&second_start.to_be_bytes());
     assert_eq!(sfnt::name(&file), Some(&other[..]));
@@ -70,6 +80,11 @@ fn collections_give_their_first_font() {
     let mut none = file.clone();
     none[11] = 0;
     assert_eq!(sfnt::name(&none), None);
+    assert_eq!(sfnt::fonts(&none), 0);
+    // More fonts than the file has offsets for.
+    none[8..12].fill(0xFF);
+    assert_eq!(sfnt::fonts(&none), (none.len() - 12) / 4);
+    assert_eq!(sfnt::table_of(&none, usize::MAX, *b"name"), None);
     file[12..16].copy_from_slice(&[0; 4]);
     assert_eq!(sfnt::name(&file), None);
 }

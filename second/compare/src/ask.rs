@@ -1,0 +1,419 @@
+//! Asks all sides the same question and stops at the first difference.
+
+use std::fmt::Display;
+
+use crate::numbers::Numbers;
+use crate::question::{shown, Function, Question, Words};
+use crate::raw;
+use crate::sides::{by_crate, by_second};
+use crate::tally::Tally;
+
+/// The levels asked at when everything is asked.
+pub const LEVELS: [u32; 8] = [0, 1, 2, 3, 4, 5, 6, u32::MAX];
+/// Bytes before and after a lent room that nobody may touch.
+const MARGIN: usize = 24;
+
+/// A difference, or an answer that document 01 has no place for, in whole lines.
+#[derive(Debug)]
+pub struct Difference(pub String);
+
+/// How much is asked of a table.
+#[derive(Clone, Copy, PartialEq, Eq)]
+pub enum Amount {
+    /// Every question at every level, every number, every key and all its near misses.
+    Everything,
+    /// A choice that depends on the table: see the README.
+    Some,
+}
+
+/// The state of the comparison.
+pub struct Asker {
+    pub tally: Tally,
+}
+
+impl Asker {
+    /// An asker that has asked nothing.
+    pub fn new() -> Asker {
+        Asker {
+            tally: Tally::new(),
+        }
+    }
+
+    /// Asks one question of all sides. Gives the words that all answered.
+    pub fn ask(&mut self, table: &[u8], question: Question) -> Result<Words, Difference> {
+        let second = by_second::words(table, question);
+        let archive = raw::words(table, question);
+        let krate = by_crate::words(table, question);
+        if archive != second || krate != second {
+            let function = question.function();
+            return Err(difference(&question, function, second, archive, krate));
+        }
+        self.counted(&question, question.function(), second)
+    }
+
+    fn counted(
+        &mut self,
+        question: &dyn Display,
+        function: Function,
+        words: Words,
+    ) -> Result<Words, Difference> {
+        match self.tally.count(function, words) {
+            Ok(()) => Ok(words),
+            Err(fault) => Err(Difference(format!(
+                "{}: {fault}\n  all sides answer: {}\n",
+                question,
+                shown(function, words)
+            ))),
+        }
+    }
+
+    /// Writes 48 numbers with a room of this length on all sides, and compares the room and the bytes around it.
+    pub fn write(
+        &mut self,
+        numbers: &[i64; 48],
+        length: usize,
+        pattern: u8,
+    ) -> Result<Words, Difference> {
+        let words = same_rooms(
+            &format_args!("write with {length} bytes of room"),
+            Function::Write,
+            length,
+            pattern,
+            &[
+                &|room| by_second::write(numbers, room),
+                &|room| raw::write(numbers, room),
+                &|room| by_crate::write(numbers, room),
+            ],
+        )?;
+        self.counted(
+            &format_args!("write with {length} bytes of room"),
+            Function::Write,
+            words,
+        )
+    }
+
+    /// Rewrites a table with a room of this length on all sides, and compares the room and the bytes around it.
+    pub fn rewrite(
+        &mut self,
+        table: &[u8],
+        length: usize,
+        pattern: u8,
+    ) -> Result<Words, Difference> {
+        let words = same_rooms(
+            &format_args!("rewrite with {length} bytes of room"),
+            Function::Rewrite,
+            length,
+            pattern,
+            &[
+                &|room| by_second::rewrite(table, room),
+                &|room| raw::rewrite(table, room),
+                &|room| by_crate::rewrite(table, room),
+            ],
+        )?;
+        self.counted(
+            &format_args!("rewrite with {length} bytes of room"),
+            Function::Rewrite,
+            words,
+        )
+    }
+
+    /// Asks the four 'name' questions.
+    pub fn name(
+        &mut self,
+        table: &[u8],
+        amount: Amount,
+        numbers: &mut Numbers,
+    ) -> Result<(), Difference> {
+        self.tally.names[0] += 1;
+        let accepted = self.ask(table, Question::NameCheck)?[0] == 0;
+        self.tally.names[1] += u64::from(accepted);
+        self.ask(table, Question::PostScript)?;
+        self.ask(table, Question::Version)?;
+
+        let fixed = [
+            [1, 0, 0, 6],
+            [3, 1, 0x409, 6],
+            [3, 1, 0x409, 5],
+            [1, 0, 0, 5],
+            [0, 0, 0, 0],
+            [65_535; 4],
+            [65_536; 4],
+            [u32::MAX; 4],
+        ];
+        let keys = stored_keys(table);
+        match amount {
+            Amount::Everything => {
+                for key in fixed.iter().chain(&keys) {
+                    self.key_and_near_misses(table, *key)?;
+                }
+            }
+            // A refused table passes its refusal on, whatever the key is.
+            Amount::Some if !accepted => {
+                self.ask(table, Question::Lookup(numbers.pick(&fixed)))?;
+                if !keys.is_empty() {
+                    self.ask(table, Question::Lookup(numbers.pick(&keys)))?;
+                }
+            }
+            Amount::Some => {
+                for key in fixed {
+                    self.ask(table, Question::Lookup(key))?;
+                }
+                if keys.len() <= 12 {
+                    for key in keys {
+                        self.key_and_near_misses(table, key)?;
+                    }
+                } else {
+                    // The two ends, and some between.
+                    self.key_and_near_misses(table, keys[0])?;
+                    self.key_and_near_misses(table, keys[keys.len() - 1])?;
+                    for _ in 0..6 {
+                        let key = numbers.pick(&keys);
+                        self.ask(table, Question::Lookup(key))?;
+                        let part = numbers.below(4);
+                        let mut near = key;
+                        near[part] = numbers.pick(&near_parts(key[part]));
+                        self.ask(table, Question::Lookup(near))?;
+                    }
+                }
+            }
+        }
+        Ok(())
+    }
+
+    fn key_and_near_misses(&mut self, table: &[u8], key: [u32; 4]) -> Result<(), Difference> {
+        self.ask(table, Question::Lookup(key))?;
+        for part in 0..4 {
+            for near in near_parts(key[part]) {
+                let mut other = key;
+                other[part] = near;
+                self.ask(table, Question::Lookup(other))?;
+            }
+        }
+        let [p, e, l, n] = key;
+        for other in [
+            key.map(|part| part.wrapping_add(65_536)),
+            [n, l, e, p],
+            [p, e, n, l],
+        ] {
+            self.ask(table, Question::Lookup(other))?;
+        }
+        Ok(())
+    }
+
+    /// Asks the OS/2 questions, rewrites the table, and writes the numbers that it holds.
+    pub fn os2(
+        &mut self,
+        table: &[u8],
+        amount: Amount,
+        numbers: &mut Numbers,
+    ) -> Result<(), Difference> {
+        self.tally.os2s[0] += 1;
+        let mut somewhere = false;
+        // The levels at which every number is asked for.
+        let chosen = [numbers.below(6) as u32, numbers.below(6) as u32];
+        for level in LEVELS {
+            let accepted = self.ask(table, Question::Os2Check(level))?[0] == 0;
+            somewhere |= accepted;
+            self.tally.os2s[1] += u64::from(accepted && level == 5);
+            self.ask(table, Question::Rights(level))?;
+            self.ask(table, Question::StylePosition(level))?;
+            self.ask(table, Question::OpticalSizes(level))?;
+            if amount == Amount::Everything || (accepted && chosen.contains(&level)) {
+                self.every_number(table, level)?;
+            } else {
+                self.some_numbers(table, level, numbers)?;
+            }
+        }
+        self.tally.os2s[2] += u64::from(somewhere);
+
+        let pattern = numbers.below(256) as u8;
+        let size = match table {
+            [high, low, ..] => second::os2::size(u32::from(u16::from_be_bytes([*high, *low]))),
+            _ => 100,
+        };
+        for length in [size + 1 + numbers.below(40), size, size - 1, 0] {
+            self.rewrite(table, length, pattern)?;
+        }
+        if amount == Amount::Everything {
+            for length in 0..=size + 40 {
+                self.rewrite(table, length, pattern)?;
+            }
+        }
+
+        // The numbers that the table holds, as far as level 5 reads them. For fields that it lacks, a number that would not
+        // fit them.
+        let mut values = [i64::MIN; 48];
+        for (number, value) in values.iter_mut().enumerate() {
+            match second::os2::field(5, table, number as u32) {
+                Ok(second::os2::Answer::Value(read)) => *value = read,
+                Ok(_) => {}
+                Err(_) => return Ok(()),
+            }
+        }
+        self.write(&values, size + numbers.below(3), pattern)?;
+        Ok(())
+    }
+
+    fn every_number(&mut self, table: &[u8], level: u32) -> Result<(), Difference> {
+        for number in (0..=49).chain(OUT_OF_RANGE) {
+            self.ask(table, Question::Field(level, number))?;
+        }
+        for number in (0..=17).chain(OUT_OF_RANGE) {
+            self.ask(table, Question::SelectionBit(level, number))?;
+        }
+        for number in (0..=130).chain(OUT_OF_RANGE) {
+            self.ask(table, Question::UnicodeBit(level, number))?;
+        }
+        for number in (0..=66).chain(OUT_OF_RANGE) {
+            self.ask(table, Question::CodePageBit(level, number))?;
+        }
+        Ok(())
+    }
+
+    fn some_numbers(
+        &mut self,
+        table: &[u8],
+        level: u32,
+        numbers: &mut Numbers,
+    ) -> Result<(), Difference> {
+        let out = numbers.pick(&OUT_OF_RANGE);
+        for number in [numbers.below(48) as u32, 48, out] {
+            self.ask(table, Question::Field(level, number))?;
+        }
+        for number in [numbers.below(10) as u32, 10, out] {
+            self.ask(table, Question::SelectionBit(level, number))?;
+        }
+        for number in [numbers.below(128) as u32, 128, out] {
+            self.ask(table, Question::UnicodeBit(level, number))?;
+        }
+        for number in [numbers.below(64) as u32, 64, out] {
+            self.ask(table, Question::CodePageBit(level, number))?;
+        }
+        Ok(())
+    }
+
+    /// Writes 48 numbers with rooms that are longer than needed, exactly as long, one byte shorter, empty, and of a length
+    /// taken at random.
+    pub fn numbers(
+        &mut self,
+        values: &[i64; 48],
+        amount: Amount,
+        numbers: &mut Numbers,
+    ) -> Result<(), Difference> {
+        self.tally.writes[0] += 1;
+        let pattern = numbers.below(256) as u8;
+        let size = match u32::try_from(values[0]) {
+            Ok(version) => second::os2::size(version),
+            Err(_) => 100,
+        };
+        let written = self.write(values, size + 1 + numbers.below(40), pattern)?;
+        self.tally.writes[1] += u64::from(written[0] == 0);
+        for length in [size, size - 1, 0, 70 + numbers.below(40)] {
+            self.write(values, length, pattern)?;
+        }
+        if amount == Amount::Everything {
+            for length in 0..=size + 40 {
+                self.write(values, length, pattern)?;
+            }
+        }
+        Ok(())
+    }
+}
+
+/// Numbers that no field and no bit has.
+const OUT_OF_RANGE: [u32; 7] = [255, 256, 65_535, 65_536, 65_536 + 2, 1 << 31, u32::MAX];
+
+/// The message of a difference.
+fn difference(
+    question: &dyn Display,
+    function: Function,
+    second: Words,
+    archive: Words,
+    krate: Words,
+) -> Difference {
+    Difference(format!(
+        "{question}: the answers differ\n  second:  {}\n  archive: {}\n  crate:   {}\n",
+        shown(function, second),
+        shown(function, archive),
+        shown(function, krate)
+    ))
+}
+
+/// One side's writing into a room.
+type Writing<'a> = &'a dyn Fn(&mut [u8]) -> Words;
+
+/// Lends each side a room of the same length and bytes, and compares their words, the rooms and the bytes around them.
+fn same_rooms(
+    question: &dyn Display,
+    function: Function,
+    length: usize,
+    pattern: u8,
+    sides: &[Writing; 3],
+) -> Result<Words, Difference> {
+    let before: Vec<u8> = (0..length + 2 * MARGIN)
+        .map(|place| (place as u8).wrapping_mul(37).wrapping_add(pattern))
+        .collect();
+    let mut words = [[0; 7]; 3];
+    let mut rooms = [before.clone(), before.clone(), before.clone()];
+    for side in 0..3 {
+        words[side] = sides[side](&mut rooms[side][MARGIN..MARGIN + length]);
+    }
+    if words[1] != words[0] || words[2] != words[0] {
+        return Err(difference(
+            &question, function, words[0], words[1], words[2],
+        ));
+    }
+    for (side, title) in [(1, "the archive"), (2, "the crate")] {
+        if let Some(place) = (0..before.len()).find(|&p| rooms[side][p] != rooms[0][p]) {
+            return Err(Difference(format!(
+                "{}: the rooms differ at byte {}, counted from the room's start\n  second:  {}\n  {title}: {}\n",
+                question,
+                place as i64 - MARGIN as i64,
+                rooms[0][place],
+                rooms[side][place]
+            )));
+        }
+    }
+    // What document 01 says of lent memory, of all sides at once.
+    let touched = match words[0][0] {
+        0 => words[0][3] as usize,
+        _ => 0,
+    };
+    let outside = (0..before.len()).find(|&place| {
+        !(MARGIN..MARGIN + touched).contains(&place) && rooms[0][place] != before[place]
+    });
+    if let Some(place) = outside {
+        return Err(Difference(format!(
+            "{}: byte {}, counted from the room's start, is not to be touched, and all sides change it\n",
+            question,
+            place as i64 - MARGIN as i64
+        )));
+    }
+    Ok(words[0])
+}
+
+/// The keys of the records as far as the table's bytes go, accepted or not.
+fn stored_keys(table: &[u8]) -> Vec<[u32; 4]> {
+    let word = |at: usize| match table.get(at..at + 2) {
+        Some(two) => u32::from(u16::from_be_bytes([two[0], two[1]])),
+        None => 0,
+    };
+    let count = word(2) as usize;
+    (0..count)
+        .map(|record| 6 + 12 * record)
+        .take_while(|at| at + 12 <= table.len())
+        .map(|at| [word(at), word(at + 2), word(at + 4), word(at + 6)])
+        .collect()
+}
+
+/// The near misses of one part of a key.
+fn near_parts(part: u32) -> [u32; 6] {
+    [
+        part.wrapping_sub(1),
+        part.wrapping_add(1),
+        part.wrapping_add(65_536),
+        part | 1 << 31,
+        part ^ 0x8000,
+        u32::MAX,
+    ]
+}

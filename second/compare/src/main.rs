@@ -1,0 +1,466 @@
+//! Asks the archive `libgyalvindor.a`, the Rust crate over it and the second program the same questions on the same bytes,
+//! and stops at the first difference. The README says what is asked.
+
+mod ask;
+mod fonts;
+mod make;
+mod numbers;
+mod question;
+mod raw;
+mod rows;
+mod sides;
+mod tally;
+
+use std::io::{IsTerminal, Write};
+use std::path::{Path, PathBuf};
+use std::process::ExitCode;
+use std::time::{Duration, Instant, SystemTime, UNIX_EPOCH};
+use std::{env, fs, io, process};
+
+use ask::{Amount, Asker, Difference};
+use make::Made;
+use numbers::Numbers;
+use tally::Tally;
+
+const USAGE: &str = "usage: compare [OPTION]... [FOLDER]...
+Compares the archive and the Rust crate over it with the second program on document 01's rows, on tables made at random, and
+on the fonts under the folders. Without folders: the fonts installed on the machine.
+
+  --rows, --random, --fonts  only these parts
+  --count N                  how many tables are made at random (1000000)
+  --seed S                   the seed (taken from the clock)
+  --first K                  number of the first table that is made (0)
+  --bytes FOLDER             where the bytes of a difference are written (the folder for passing files)
+  --name FILE                only: ask everything of the 'name' table in this file
+  --os2 FILE                 only: ask everything of the 'OS/2' table in this file
+  --numbers FILE             only: write the 48 numbers in this file, one a line";
+
+/// A long run at random has to meet everything.
+const LONG: u64 = 100_000;
+/// How often each table of a font is damaged.
+const DAMAGED: u64 = 50;
+
+/// What the program is told to do.
+struct Task {
+    rows: bool,
+    random: bool,
+    fonts: bool,
+    count: u64,
+    seed: u64,
+    first: u64,
+    bytes: PathBuf,
+    folders: Vec<PathBuf>,
+    single: Option<(String, PathBuf)>,
+}
+
+/// Why the program stops before its end.
+enum Stop {
+    /// The sides differ, on these bytes.
+    Difference(String),
+    /// Something else.
+    Fault(String),
+}
+
+fn main() -> ExitCode {
+    let task = match parse(env::args().skip(1).collect()) {
+        Ok(Some(task)) => task,
+        Ok(None) => {
+            println!("{USAGE}");
+            return ExitCode::SUCCESS;
+        }
+        Err(fault) => {
+            eprintln!("compare: {fault}\n{USAGE}");
+            return ExitCode::from(2);
+        }
+    };
+    match run(&task) {
+        Ok(()) => ExitCode::SUCCESS,
+        Err(Stop::Difference(words)) => {
+            eprint!("compare: DIFFERENCE\n{words}");
+            ExitCode::from(1)
+        }
+        Err(Stop::Fault(words)) => {
+            eprintln!("compare: {words}");
+            ExitCode::from(1)
+        }
+    }
+}
+
+/// The task, nothing where the usage is asked for, or what is wrong with the arguments.
+fn parse(arguments: Vec<String>) -> Result<Option<Task>, String> {
+    let clock = SystemTime::now().duration_since(UNIX_EPOCH);
+    let mut task = Task {
+        rows: false,
+        random: false,
+        fonts: false,
+        count: 1_000_000,
+        seed: clock.map_or(1, |time| time.as_nanos() as u64 % 1_000_000_000_000),
+        first: 0,
+        bytes: env::temp_dir(),
+        folders: Vec::new(),
+        single: None,
+    };
+    let mut rest = arguments.into_iter();
+    while let Some(argument) = rest.next() {
+        let mut after = || {
+            rest.next()
+                .ok_or(format!("{argument} needs a word after it"))
+        };
+        let number = |word: String| {
+            let parsed = word.parse::<u64>();
+            parsed.map_err(|_| format!("{word} is no number"))
+        };
+        match argument.as_str() {
+            "--help" | "-h" => return Ok(None),
+            "--rows" => task.rows = true,
+            "--random" => task.random = true,
+            "--fonts" => task.fonts = true,
+            "--count" => task.count = number(after()?)?,
+            "--seed" => task.seed = number(after()?)?,
+            "--first" => task.first = number(after()?)?,
+            "--bytes" => task.bytes = PathBuf::from(after()?),
+            "--name" | "--os2" | "--numbers" => {
+                let file = PathBuf::from(after()?);
+                task.single = Some((argument, file));
+            }
+            _ if argument.starts_with('-') => return Err(format!("{argument} is no option")),
+            _ => task.folders.push(PathBuf::from(argument)),
+        }
+    }
+    if !(task.rows || task.random || task.fonts) {
+        (task.rows, task.random, task.fonts) = (true, true, true);
+    }
+    Ok(Some(task))
+}
+
+fn run(task: &Task) -> Result<(), Stop> {
+    let started = Instant::now();
+    let mut whole = Tally::new();
+    if let Some((option, file)) = &task.single {
+        whole.add(&single(task, option, file)?);
+    } else {
+        if task.rows {
+            whole.add(&document_rows(task)?);
+        }
+        if task.random {
+            whole.add(&at_random(task)?);
+        }
+        if task.fonts {
+            whole.add(&installed_fonts(task)?);
+        }
+    }
+    println!("in all: {}", whole.tables());
+    print!("{}", whole.report());
+    println!(
+        "{} calls compared, no difference, {:.1} seconds",
+        whole.calls(),
+        started.elapsed().as_secs_f64()
+    );
+    Ok(())
+}
+
+// ---- the parts
+
+fn single(task: &Task, option: &str, file: &Path) -> Result<Tally, Stop> {
+    let bytes = fs::read(file).map_err(|e| Stop::Fault(format!("{}: {e}", file.display())))?;
+    let made = match option {
+        "--name" => Made::Name(bytes),
+        "--os2" => Made::Os2(bytes),
+        _ => {
+            let text = String::from_utf8_lossy(&bytes);
+            let numbers: Vec<i64> = text
+                .split_whitespace()
+                .map(|word| {
+                    word.parse()
+                        .map_err(|_| Stop::Fault(format!("{word} is no number")))
+                })
+                .collect::<Result<_, _>>()?;
+            let numbers = <[i64; 48]>::try_from(numbers)
+                .map_err(|n| Stop::Fault(format!("{} numbers, not 48", n.len())))?;
+            Made::Numbers(Box::new(numbers))
+        }
+    };
+    let mut asker = Asker::new();
+    let place = format!("the file {}", file.display());
+    one(
+        task,
+        &mut asker,
+        &made,
+        Amount::Everything,
+        &mut Numbers::new(task.seed),
+        &place,
+    )?;
+    Ok(asker.tally)
+}
+
+fn document_rows(task: &Task) -> Result<Tally, Stop> {
+    let mut asker = Asker::new();
+    let rows = rows::rows();
+    for row in &rows {
+        rows::ask(&mut asker, row).map_err(|difference| {
+            let place = format!("document 01's row \"{}\"", row.words);
+            stopped(task, &row.made(), difference, &place)
+        })?;
+    }
+    println!(
+        "document 01: {} rows, {} calls",
+        rows.len(),
+        asker.tally.calls()
+    );
+    Ok(asker.tally)
+}
+
+fn at_random(task: &Task) -> Result<Tally, Stop> {
+    println!(
+        "at random: seed {}, tables {} to {}",
+        task.seed,
+        task.first,
+        task.first + task.count.max(1) - 1
+    );
+    let mut asker = Asker::new();
+    let mut progress = Progress::new("tables", task.count);
+    for done in 0..task.count {
+        let number = task.first + done;
+        let mut numbers = Numbers::of_table(task.seed, number);
+        let made = make::made(number, &mut numbers);
+        let place = || format!("table {number} of seed {}", task.seed);
+        one_lazily(task, &mut asker, &made, Amount::Some, &mut numbers, &place)?;
+        progress.show(done);
+    }
+    progress.clear();
+    println!("at random: {}", asker.tally.tables());
+    println!("at random: {} calls", asker.tally.calls());
+    let missing = asker.tally.not_met();
+    if task.count >= LONG && !missing.is_empty() {
+        return Err(Stop::Fault(format!(
+            "the tables made at random did not meet: {}",
+            missing.join("; ")
+        )));
+    }
+    if missing.is_empty() {
+        println!(
+            "at random: every refusal, rule, field that does not fit and kind of answer was met"
+        );
+    } else {
+        println!("at random: too few tables to meet: {}", missing.join("; "));
+    }
+    Ok(asker.tally)
+}
+
+fn installed_fonts(task: &Task) -> Result<Tally, Stop> {
+    let folders = if task.folders.is_empty() {
+        fonts::installed()
+    } else {
+        task.folders.clone()
+    };
+    let files = fonts::under(&folders).map_err(Stop::Fault)?;
+    let mut asker = Asker::new();
+    let mut damaged = Asker::new();
+    let mut progress = Progress::new("font files", files.len() as u64);
+    let mut faces = 0;
+    let mut without = [0, 0];
+    for (done, path) in files.iter().enumerate() {
+        let file = fs::read(path).map_err(|e| Stop::Fault(format!("{}: {e}", path.display())))?;
+        for face in 0..second::sfnt::fonts(&file) {
+            faces += 1;
+            let name = second::sfnt::table_of(&file, face, *b"name");
+            let os2 = second::sfnt::table_of(&file, face, *b"OS/2");
+            without[0] += u64::from(name.is_none());
+            without[1] += u64::from(os2.is_none());
+            let tables = [
+                name.map(|bytes| Made::Name(bytes.to_vec())),
+                os2.map(|bytes| Made::Os2(bytes.to_vec())),
+            ];
+            for made in tables.into_iter().flatten() {
+                let place = format!("font {face} of {}", path.display());
+                let mut numbers = Numbers::of_table(task.seed, done as u64);
+                one(
+                    task,
+                    &mut asker,
+                    &made,
+                    Amount::Everything,
+                    &mut numbers,
+                    &place,
+                )?;
+                for _ in 0..DAMAGED {
+                    let made = damage(&made, &mut numbers);
+                    let place = format!("a damaged table of font {face} of {}", path.display());
+                    one(
+                        task,
+                        &mut damaged,
+                        &made,
+                        Amount::Some,
+                        &mut numbers,
+                        &place,
+                    )?;
+                }
+            }
+        }
+        progress.show(done as u64);
+    }
+    progress.clear();
+    if asker.tally.names[0] + asker.tally.os2s[0] == 0 {
+        let shown: Vec<String> = folders.iter().map(|f| f.display().to_string()).collect();
+        return Err(Stop::Fault(format!(
+            "no fonts found under: {}. Name a folder that holds fonts",
+            if shown.is_empty() {
+                "(no folder)".to_string()
+            } else {
+                shown.join(", ")
+            }
+        )));
+    }
+    println!(
+        "fonts: {} files, {faces} fonts, of which {} have no name table and {} no OS/2 table",
+        files.len(),
+        without[0],
+        without[1]
+    );
+    println!("fonts: {}", asker.tally.tables());
+    println!("fonts, damaged: {}", damaged.tally.tables());
+    asker.tally.add(&damaged.tally);
+    Ok(asker.tally)
+}
+
+/// A font's table with one or two faults in its bytes.
+fn damage(made: &Made, numbers: &mut Numbers) -> Made {
+    let edges = [6, 18, 78, 86, 96, 100];
+    let faulty = |bytes: &Vec<u8>, numbers: &mut Numbers| {
+        let mut bytes = bytes.clone();
+        for _ in 0..1 + numbers.below(2) {
+            make::byte_fault(numbers, &mut bytes, &edges);
+        }
+        bytes
+    };
+    match made {
+        Made::Name(bytes) => Made::Name(faulty(bytes, numbers)),
+        Made::Os2(bytes) => Made::Os2(faulty(bytes, numbers)),
+        Made::Numbers(values) => Made::Numbers(values.clone()),
+    }
+}
+
+// ---- one table
+
+fn one(
+    task: &Task,
+    asker: &mut Asker,
+    made: &Made,
+    amount: Amount,
+    numbers: &mut Numbers,
+    place: &str,
+) -> Result<(), Stop> {
+    one_lazily(task, asker, made, amount, numbers, &|| place.to_string())
+}
+
+/// Asks the questions on what was made. A table is lent from the middle of other bytes, which change with the table, so that
+/// a side that reads past an end shows it.
+fn one_lazily(
+    task: &Task,
+    asker: &mut Asker,
+    made: &Made,
+    amount: Amount,
+    numbers: &mut Numbers,
+    place: &dyn Fn() -> String,
+) -> Result<(), Stop> {
+    let result = match made {
+        Made::Name(bytes) | Made::Os2(bytes) => {
+            let before = numbers.below(8);
+            let mut around = numbers.bytes(before);
+            around.extend(bytes);
+            let after = 16 + numbers.below(8);
+            around.extend(numbers.bytes(after));
+            let lent = &around[before..before + bytes.len()];
+            let result = match made {
+                Made::Name(_) => asker.name(lent, amount, numbers),
+                _ => asker.os2(lent, amount, numbers),
+            };
+            match result {
+                Ok(()) if lent != bytes => Err(Difference(
+                    "a question changed the table that was lent for reading\n".to_string(),
+                )),
+                result => result,
+            }
+        }
+        Made::Numbers(values) => asker.numbers(values, amount, numbers),
+    };
+    result.map_err(|difference| stopped(task, made, difference, &place()))
+}
+
+/// Writes the bytes of a difference to a file and gives the whole message.
+fn stopped(task: &Task, made: &Made, difference: Difference, place: &str) -> Stop {
+    let (title, option, bytes) = match made {
+        Made::Name(bytes) => ("name", "--name", bytes.clone()),
+        Made::Os2(bytes) => ("os2", "--os2", bytes.clone()),
+        Made::Numbers(values) => {
+            let lines: String = values.iter().map(|value| format!("{value}\n")).collect();
+            ("numbers", "--numbers", lines.into_bytes())
+        }
+    };
+    let file = task
+        .bytes
+        .join(format!("compare-{title}-{}", process::id()));
+    let kept = match fs::write(&file, &bytes) {
+        Ok(()) => format!(
+            "  The {} are in {path}\n  Ask again: compare {option} {path}\n",
+            if title == "numbers" {
+                "48 numbers"
+            } else {
+                "table's bytes"
+            },
+            path = file.display()
+        ),
+        Err(e) => format!(
+            "  The bytes can't be written to {}: {e}\n  They are: {bytes:02X?}\n",
+            file.display()
+        ),
+    };
+    Stop::Difference(format!("on {place}\n{}{kept}", difference.0))
+}
+
+// ---- progress
+
+/// Shows on a terminal how far a long run is.
+struct Progress {
+    what: &'static str,
+    count: u64,
+    terminal: bool,
+    started: Instant,
+    shown: Option<Instant>,
+}
+
+impl Progress {
+    fn new(what: &'static str, count: u64) -> Progress {
+        Progress {
+            what,
+            count,
+            terminal: io::stderr().is_terminal(),
+            started: Instant::now(),
+            shown: None,
+        }
+    }
+
+    fn show(&mut self, done: u64) {
+        if !self.terminal || !done.is_multiple_of(64) && self.what == "tables" {
+            return;
+        }
+        let last = self.shown.unwrap_or(self.started);
+        if last.elapsed() < Duration::from_millis(300) {
+            return;
+        }
+        self.shown = Some(Instant::now());
+        let seconds = self.started.elapsed().as_secs();
+        eprint!(
+            "\r{} of {} {}, {seconds} s ",
+            done + 1,
+            self.count,
+            self.what
+        );
+        let _ = io::stderr().flush();
+    }
+
+    fn clear(&self) {
+        if self.shown.is_some() {
+            eprint!("\r{:60}\r", "");
+        }
+    }
+}

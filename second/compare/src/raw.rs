@@ -1,0 +1,173 @@
+//! The archive's answers, word by word, through an extern block of its own: `include/gyalvindor.h` is what it was written
+//! from. So members that a caller is not meant to look at are seen too.
+
+use crate::question::{Question, Words};
+
+#[repr(C)]
+struct Refusal {
+    number: u32,
+    carries: u32,
+    carried: usize,
+}
+
+#[repr(C)]
+struct Text {
+    refusal: Refusal,
+    start: usize,
+    length: usize,
+}
+
+#[repr(C)]
+struct Version {
+    refusal: Refusal,
+    major: u32,
+    minor: u32,
+}
+
+#[repr(C)]
+struct Number {
+    refusal: Refusal,
+    kind: u32,
+    value: i64,
+}
+
+#[repr(C)]
+struct Rights {
+    refusal: Refusal,
+    kind: u32,
+    rights: u32,
+}
+
+#[repr(C)]
+struct Style {
+    refusal: Refusal,
+    kind: u32,
+    weight: f32,
+    width: f32,
+}
+
+#[repr(C)]
+struct Optical {
+    refusal: Refusal,
+    kind: u32,
+    sizes: u32,
+    lower: f32,
+    upper: f32,
+}
+
+#[repr(C)]
+struct Written {
+    refusal: Refusal,
+    size: usize,
+}
+
+extern "C" {
+    fn gv_name_check(table: *const u8, length: usize) -> Refusal;
+    fn gv_name_lookup(table: *const u8, length: usize, p: u32, e: u32, l: u32, n: u32) -> Text;
+    fn gv_name_postscript(table: *const u8, length: usize) -> Text;
+    fn gv_name_version(table: *const u8, length: usize) -> Version;
+    fn gv_os2_check(table: *const u8, length: usize, level: u32) -> Refusal;
+    fn gv_os2_field(table: *const u8, length: usize, level: u32, number: u32) -> Number;
+    fn gv_os2_selection_bit(table: *const u8, length: usize, level: u32, number: u32) -> Number;
+    fn gv_os2_unicode_bit(table: *const u8, length: usize, level: u32, number: u32) -> Number;
+    fn gv_os2_code_page_bit(table: *const u8, length: usize, level: u32, number: u32) -> Number;
+    fn gv_os2_rights(table: *const u8, length: usize, level: u32) -> Rights;
+    fn gv_os2_style_position(table: *const u8, length: usize, level: u32) -> Style;
+    fn gv_os2_optical_sizes(table: *const u8, length: usize, level: u32) -> Optical;
+    fn gv_os2_write(numbers: *const i64, room: *mut u8, length: usize) -> Written;
+    fn gv_os2_rewrite(table: *const u8, size: usize, room: *mut u8, length: usize) -> Written;
+}
+
+/// The words of an answer that has only a refusal.
+fn bare(refusal: Refusal) -> Words {
+    with(refusal, [0; 4])
+}
+
+/// The words of an answer: the refusal's three, then the members after it.
+fn with(refusal: Refusal, members: [u64; 4]) -> Words {
+    let [a, b, c, d] = members;
+    [
+        u64::from(refusal.number),
+        u64::from(refusal.carries),
+        refusal.carried as u64,
+        a,
+        b,
+        c,
+        d,
+    ]
+}
+
+fn text(t: Text) -> Words {
+    with(t.refusal, [t.start as u64, t.length as u64, 0, 0])
+}
+
+fn number(n: Number) -> Words {
+    with(n.refusal, [u64::from(n.kind), n.value as u64, 0, 0])
+}
+
+/// The words that the archive answers to a question on a table.
+pub fn words(table: &[u8], question: Question) -> Words {
+    let (bytes, length) = (table.as_ptr(), table.len());
+    // SAFETY: `bytes` points at `length` readable bytes and is not null, also where the slice is empty. The functions read
+    // those bytes only, keep no pointer, and take any levels and numbers.
+    unsafe {
+        match question {
+            Question::NameCheck => bare(gv_name_check(bytes, length)),
+            Question::Lookup([p, e, l, n]) => text(gv_name_lookup(bytes, length, p, e, l, n)),
+            Question::PostScript => text(gv_name_postscript(bytes, length)),
+            Question::Version => {
+                let v = gv_name_version(bytes, length);
+                with(v.refusal, [u64::from(v.major), u64::from(v.minor), 0, 0])
+            }
+            Question::Os2Check(level) => bare(gv_os2_check(bytes, length, level)),
+            Question::Field(level, n) => number(gv_os2_field(bytes, length, level, n)),
+            Question::SelectionBit(level, n) => {
+                number(gv_os2_selection_bit(bytes, length, level, n))
+            }
+            Question::UnicodeBit(level, n) => number(gv_os2_unicode_bit(bytes, length, level, n)),
+            Question::CodePageBit(level, n) => {
+                number(gv_os2_code_page_bit(bytes, length, level, n))
+            }
+            Question::Rights(level) => {
+                let r = gv_os2_rights(bytes, length, level);
+                with(r.refusal, [u64::from(r.kind), u64::from(r.rights), 0, 0])
+            }
+            Question::StylePosition(level) => {
+                let s = gv_os2_style_position(bytes, length, level);
+                let (weight, width) = (s.weight.to_bits(), s.width.to_bits());
+                with(
+                    s.refusal,
+                    [u64::from(s.kind), u64::from(weight), u64::from(width), 0],
+                )
+            }
+            Question::OpticalSizes(level) => {
+                let o = gv_os2_optical_sizes(bytes, length, level);
+                let (lower, upper) = (o.lower.to_bits(), o.upper.to_bits());
+                with(
+                    o.refusal,
+                    [
+                        u64::from(o.kind),
+                        u64::from(o.sizes),
+                        u64::from(lower),
+                        u64::from(upper),
+                    ],
+                )
+            }
+        }
+    }
+}
+
+/// The words that the archive's writer answers.
+pub fn write(numbers: &[i64; 48], room: &mut [u8]) -> Words {
+    // SAFETY: the array lends 48 numbers, the room `len()` writable bytes that nothing else refers to; no pointer is null.
+    let w = unsafe { gv_os2_write(numbers.as_ptr(), room.as_mut_ptr(), room.len()) };
+    with(w.refusal, [w.size as u64, 0, 0, 0])
+}
+
+/// The words that the archive's rewriting answers.
+pub fn rewrite(table: &[u8], room: &mut [u8]) -> Words {
+    // SAFETY: the table lends `len()` readable bytes, the room `len()` writable bytes that nothing else refers to, so they
+    // do not overlap; no pointer is null.
+    let w = unsafe { gv_os2_rewrite(table.as_ptr(), table.len(), room.as_mut_ptr(), room.len()) };
+    with(w.refusal, [w.size as u64, 0, 0, 0])
+}

@@ -1,0 +1,310 @@
+//! Document 01's rows: "Examples to check against" and "Easy slips", each with the answer that stands there.
+
+use crate::ask::{Amount, Asker, Difference};
+use crate::make::Made;
+use crate::numbers::Numbers;
+use crate::question::{shown, Question, Words};
+
+/// A row: its words, its table, and the answers that document 01 gives.
+pub struct Row {
+    pub words: &'static str,
+    pub table: Vec<u8>,
+    pub answers: Vec<(Question, Words)>,
+}
+
+impl Row {
+    /// The row's table; it is of the kind that its first question is on.
+    pub fn made(&self) -> Made {
+        match self.answers[0].0 {
+            Question::NameCheck
+            | Question::Lookup(_)
+            | Question::PostScript
+            | Question::Version => Made::Name(self.table.clone()),
+            _ => Made::Os2(self.table.clone()),
+        }
+    }
+}
+
+/// Asks everything of one row's table, after the answers that stand in document 01.
+pub fn ask(asker: &mut Asker, row: &Row) -> Result<(), Difference> {
+    for &(question, expected) in &row.answers {
+        let words = asker.ask(&row.table, question)?;
+        if words != expected {
+            let function = question.function();
+            return Err(Difference(format!(
+                "{question}: the sides agree, but document 01 says otherwise\n  document 01: {}\n  all sides:   {}\n",
+                shown(function, expected),
+                shown(function, words)
+            )));
+        }
+    }
+    let mut numbers = Numbers::new(1);
+    match row.made() {
+        Made::Name(table) => asker.name(&table, Amount::Everything, &mut numbers),
+        Made::Os2(table) => asker.os2(&table, Amount::Everything, &mut numbers),
+        Made::Numbers(values) => asker.numbers(&values, Amount::Everything, &mut numbers),
+    }
+}
+
+const ACCEPTED: Words = [0; 7];
+
+fn refused(number: u64) -> Words {
+    [number, 0, 0, 0, 0, 0, 0]
+}
+
+fn refused_at(number: u64, place: u64) -> Words {
+    [number, 1, place, 0, 0, 0, 0]
+}
+
+/// A string's start and length, or a version's two figures.
+fn two(first: u64, second: u64) -> Words {
+    [0, 0, 0, first, second, 0, 0]
+}
+
+fn value(value: u64) -> Words {
+    two(1, value)
+}
+
+const ABSENT: Words = [0, 0, 0, 2, 0, 0, 0];
+const NOT_KNOWN: Words = [0, 0, 0, 3, 0, 0, 0];
+
+/// An OS/2 table of zero bytes but weight 400, width 5 and these 16-bit numbers, given by their offsets.
+fn os2(version: u8, size: usize, numbers: &[(usize, u16)]) -> Vec<u8> {
+    let mut table = vec![0; size];
+    table[1] = version;
+    for &(offset, number) in [(4, 400), (6, 5)].iter().chain(numbers) {
+        table[offset..offset + 2].copy_from_slice(&number.to_be_bytes());
+    }
+    table
+}
+
+const FS_TYPE: usize = 8;
+const FS_SELECTION: usize = 62;
+
+/// A format 0 'name' table: records of platform, encoding, language, name, length, offset; then the storage.
+fn name(records: &[[u16; 6]], storage: &[u8]) -> Vec<u8> {
+    let count = records.len() as u16;
+    let head = [0, count, 6 + 12 * count];
+    let words = head.iter().chain(records.iter().flatten());
+    let mut table: Vec<u8> = words.flat_map(|word| word.to_be_bytes()).collect();
+    table.extend(storage);
+    table
+}
+
+fn two_bytes(text: &str) -> Vec<u8> {
+    text.bytes().flat_map(|code| [0, code]).collect()
+}
+
+/// A table with this version text, two bytes a character.
+fn windows_version(text: &str) -> Vec<u8> {
+    let storage = two_bytes(text);
+    name(&[[3, 1, 0x409, 5, storage.len() as u16, 0]], &storage)
+}
+
+/// A table with this version text, one byte a character.
+fn macintosh_version(text: &str) -> Vec<u8> {
+    name(&[[1, 0, 0, 5, text.len() as u16, 0]], text.as_bytes())
+}
+
+/// A table with this PostScript name in both records.
+fn postscript(text: &str) -> Vec<u8> {
+    let length = text.len() as u16;
+    let mut storage = text.as_bytes().to_vec();
+    storage.extend(two_bytes(text));
+    name(
+        &[
+            [1, 0, 0, 6, length, 0],
+            [3, 1, 0x409, 6, 2 * length, length],
+        ],
+        &storage,
+    )
+}
+
+/// The rows in the document's order.
+pub fn rows() -> Vec<Row> {
+    let mut rows = Vec::new();
+    let mut row = |words: &'static str, table: Vec<u8>, answers: Vec<(Question, Words)>| {
+        rows.push(Row {
+            words,
+            table,
+            answers,
+        });
+    };
+    let check = Question::Os2Check;
+
+    row(
+        "78 zero bytes but weight 400, width 5: accepted at every level",
+        os2(0, 78, &[]),
+        (0..=5).map(|level| (check(level), ACCEPTED)).collect(),
+    );
+    row(
+        "the same, 77 bytes: 2 at every level",
+        os2(0, 77, &[]),
+        (0..=5).map(|level| (check(level), refused(2))).collect(),
+    );
+    row(
+        "that table with version 5, 96 bytes: accepted at level 4, 2 at level 5",
+        os2(5, 96, &[]),
+        vec![(check(4), ACCEPTED), (check(5), refused(2))],
+    );
+    row(
+        "version 4, fsSelection 0x0080: bit 7 set at level 5, not known at level 3",
+        os2(4, 96, &[(FS_SELECTION, 0x0080)]),
+        vec![
+            (Question::SelectionBit(5, 7), value(1)),
+            (Question::SelectionBit(3, 7), NOT_KNOWN),
+        ],
+    );
+    row(
+        "version 3, fsSelection 0x0080: 3 (rule 5) at level 3, accepted at level 2",
+        os2(3, 96, &[(FS_SELECTION, 0x0080)]),
+        vec![(check(3), refused_at(3, 5)), (check(2), ACCEPTED)],
+    );
+    row(
+        "fsSelection 0x0041, version 4, level 4: 3 (rule 6)",
+        os2(4, 96, &[(FS_SELECTION, 0x0041)]),
+        vec![(check(4), refused_at(3, 6))],
+    );
+    row(
+        "fsType 0x000C, version 4, level 5: 3 (rule 4)",
+        os2(4, 96, &[(FS_TYPE, 0x000C)]),
+        vec![(check(5), refused_at(3, 4))],
+    );
+    row(
+        "'name' bytes 00 00 00 00 00 06: accepted, any lookup 20",
+        vec![0, 0, 0, 0, 0, 6],
+        vec![
+            (Question::NameCheck, ACCEPTED),
+            (Question::Lookup([0, 0, 0, 0]), refused(20)),
+            (Question::Lookup([3, 1, 0x409, 6]), refused(20)),
+            (Question::Lookup([u32::MAX; 4]), refused(20)),
+        ],
+    );
+    for (words, text, answer) in [
+        (
+            "`Version 1.70000 2.5`: 2 and 5",
+            "Version 1.70000 2.5",
+            two(2, 5),
+        ),
+        ("`Version 65535.1`: 25", "Version 65535.1", refused(25)),
+        (
+            "`Version 65534.1`: 65534 and 1",
+            "Version 65534.1",
+            two(65_534, 1),
+        ),
+        (
+            "easy slip: 0.1 is not found inside `70000.1`",
+            "70000.1",
+            refused(25),
+        ),
+    ] {
+        row(
+            words,
+            windows_version(text),
+            vec![(Question::Version, answer)],
+        );
+        row(
+            words,
+            macintosh_version(text),
+            vec![(Question::Version, answer)],
+        );
+    }
+    row(
+        "a string ending on the last storage byte: accepted",
+        name(&[[1, 0, 0, 1, 1, 0], [1, 0, 0, 2, 2, 1]], b"abc"),
+        vec![
+            (Question::NameCheck, ACCEPTED),
+            (Question::Lookup([1, 0, 0, 2]), two(31, 2)),
+        ],
+    );
+    row(
+        "a string one byte longer: 15",
+        name(&[[1, 0, 0, 1, 1, 0], [1, 0, 0, 2, 3, 1]], b"abc"),
+        vec![(Question::NameCheck, refused_at(15, 1))],
+    );
+    row(
+        "a PostScript string of 63 characters: well formed",
+        postscript(&"A".repeat(63)),
+        vec![(Question::PostScript, two(30, 63))],
+    );
+    row(
+        "a PostScript string of 64 characters: 23",
+        postscript(&"A".repeat(64)),
+        vec![(Question::PostScript, refused(23))],
+    );
+    row(
+        "the listing's table: PostScript name Ab, version refused 20",
+        name(
+            &[[1, 0, 0, 6, 2, 0], [3, 1, 0x409, 6, 4, 2]],
+            &[0x41, 0x62, 0, 0x41, 0, 0x62],
+        ),
+        vec![
+            (Question::NameCheck, ACCEPTED),
+            (Question::PostScript, two(30, 2)),
+            (Question::Version, refused(20)),
+            (Question::Lookup([1, 0, 0, 6]), two(30, 2)),
+            (Question::Lookup([3, 1, 1033, 6]), two(32, 4)),
+        ],
+    );
+    row(
+        "the listing's table with both keys (1, 0, 0, 6): refused 17 at 1",
+        name(
+            &[[1, 0, 0, 6, 2, 0], [1, 0, 0, 6, 4, 2]],
+            &[0x41, 0x62, 0, 0x41, 0, 0x62],
+        ),
+        vec![
+            (Question::NameCheck, refused_at(17, 1)),
+            (Question::PostScript, refused_at(17, 1)),
+        ],
+    );
+    row(
+        "a listing refused without a place: refused 11",
+        vec![0, 2, 0, 0, 0, 6],
+        vec![(Question::NameCheck, refused(11))],
+    );
+    row(
+        "easy slip: a table out of order is refused, not looked up by halving",
+        name(
+            &[
+                [3, 1, 0x409, 1, 1, 0],
+                [3, 1, 0x409, 3, 1, 1],
+                [3, 1, 0x409, 2, 1, 2],
+            ],
+            b"abc",
+        ),
+        vec![
+            (Question::Lookup([3, 1, 0x409, 2]), refused_at(17, 2)),
+            (Question::Lookup([3, 1, 0x409, 1]), refused_at(17, 2)),
+        ],
+    );
+    row(
+        "easy slip: offset 65535 and length 2 don't fit",
+        name(&[[3, 1, 0x409, 1, 2, 65_535]], b"abc"),
+        vec![(Question::NameCheck, refused_at(15, 0))],
+    );
+    row(
+        "easy slip: a long version 0 table has no code pages",
+        os2(
+            0,
+            86,
+            &[(78, 0xFFFF), (80, 0xFFFF), (82, 0xFFFF), (84, 0xFFFF)],
+        ),
+        vec![
+            (Question::Field(5, 39), ABSENT),
+            (Question::Field(1, 40), ABSENT),
+            (Question::CodePageBit(5, 0), ABSENT),
+            (Question::CodePageBit(0, 63), NOT_KNOWN),
+        ],
+    );
+    row(
+        "easy slip: a version 4 table at level 3 is not refused for its bit 7",
+        os2(4, 96, &[(FS_SELECTION, 0x0080)]),
+        vec![
+            (check(3), ACCEPTED),
+            (Question::Field(3, 31), value(0x0080)),
+            (Question::SelectionBit(3, 7), NOT_KNOWN),
+            (Question::Rights(3), NOT_KNOWN),
+        ],
+    );
+    rows
+}

@@ -1,0 +1,250 @@
+//! Counts what was asked and answered, so that one sees what a run has met.
+
+use std::fmt::Write;
+
+use crate::question::{Function, Words, FUNCTIONS};
+
+/// One more than the highest refusal number.
+const NUMBERS: usize = 26;
+/// The bits of the nine width percents.
+const WIDTHS: [f32; 9] = [50.0, 62.5, 75.0, 87.5, 100.0, 112.5, 125.0, 150.0, 200.0];
+
+/// The counts of one function.
+#[derive(Clone, Copy, Default)]
+struct Row {
+    calls: u64,
+    /// By refusal number; 0 is no refusal.
+    numbers: [u64; NUMBERS],
+    /// By kind: 1 a value, 2 absent, 3 not known.
+    kinds: [u64; 4],
+    /// Bits that are clear and set.
+    bits: [u64; 2],
+}
+
+/// The counts of a run or of a part of it.
+#[derive(Clone, Default)]
+pub struct Tally {
+    rows: [Row; 14],
+    /// By the rule that refusal 3 carries.
+    rules: [u64; 8],
+    /// By the field that refusal 8 carries.
+    misfits: Vec<u64>,
+    rights: [u64; 4],
+    /// By the optical sizes' word: 1 every, 2 upwards, 3 between.
+    sizes: [u64; 4],
+    widths: [u64; 9],
+    /// 'name' tables, and those accepted.
+    pub names: [u64; 2],
+    /// 'OS/2' tables, those accepted at level 5, and those accepted at some level.
+    pub os2s: [u64; 3],
+    /// Sets of 48 numbers to write, and those written.
+    pub writes: [u64; 2],
+}
+
+impl Tally {
+    /// Nothing counted.
+    pub fn new() -> Tally {
+        Tally {
+            misfits: vec![0; 48],
+            ..Tally::default()
+        }
+    }
+
+    /// Counts one call that all sides answered with these words. It fails for words that document 01 has no place for.
+    pub fn count(&mut self, function: Function, words: Words) -> Result<(), String> {
+        let row = &mut self.rows[function as usize];
+        row.calls += 1;
+        let number = words[0];
+        if number != 0 && !function.refusals().contains(&number) {
+            return Err(format!(
+                "document 01 knows no refusal {number} for this question"
+            ));
+        }
+        row.numbers[number as usize] += 1;
+        match number {
+            3 => self.rules[words[2] as usize] += 1,
+            8 => self.misfits[words[2] as usize] += 1,
+            _ => {}
+        }
+        if number != 0 || function.kinds().is_empty() {
+            return Ok(());
+        }
+        let kind = words[3];
+        if !function.kinds().contains(&kind) {
+            return Err(format!(
+                "document 01 knows no answer of kind {kind} for this question"
+            ));
+        }
+        row.kinds[kind as usize] += 1;
+        if kind != 1 {
+            return Ok(());
+        }
+        match function {
+            Function::SelectionBit | Function::UnicodeBit | Function::CodePageBit => {
+                row.bits[words[4] as usize] += 1;
+            }
+            Function::Rights => self.rights[words[4] as usize] += 1,
+            Function::OpticalSizes => self.sizes[words[4] as usize] += 1,
+            Function::StylePosition => {
+                let place = WIDTHS
+                    .iter()
+                    .position(|width| u64::from(width.to_bits()) == words[5]);
+                match place {
+                    Some(place) => self.widths[place] += 1,
+                    None => return Err("document 01 knows no such width percent".to_string()),
+                }
+            }
+            _ => {}
+        }
+        Ok(())
+    }
+
+    /// Adds the counts of another tally.
+    pub fn add(&mut self, other: &Tally) {
+        fn each(ours: &mut [u64], theirs: &[u64]) {
+            for (our, their) in ours.iter_mut().zip(theirs) {
+                *our += their;
+            }
+        }
+        for (our, their) in self.rows.iter_mut().zip(&other.rows) {
+            our.calls += their.calls;
+            each(&mut our.numbers, &their.numbers);
+            each(&mut our.kinds, &their.kinds);
+            each(&mut our.bits, &their.bits);
+        }
+        each(&mut self.rules, &other.rules);
+        each(&mut self.misfits, &other.misfits);
+        each(&mut self.rights, &other.rights);
+        each(&mut self.sizes, &other.sizes);
+        each(&mut self.widths, &other.widths);
+        each(&mut self.names, &other.names);
+        each(&mut self.os2s, &other.os2s);
+        each(&mut self.writes, &other.writes);
+    }
+
+    /// How many calls were compared.
+    pub fn calls(&self) -> u64 {
+        self.rows.iter().map(|row| row.calls).sum()
+    }
+
+    /// One line on the tables.
+    pub fn tables(&self) -> String {
+        format!(
+            "{} name tables ({} accepted), {} OS/2 tables ({} accepted at level 5, {} at some level), {} sets of 48 numbers ({} written)",
+            self.names[0],
+            self.names[1],
+            self.os2s[0],
+            self.os2s[1],
+            self.os2s[2],
+            self.writes[0],
+            self.writes[1]
+        )
+    }
+
+    /// All counts, as lines.
+    pub fn report(&self) -> String {
+        let mut lines = String::new();
+        let mut totals = [0; NUMBERS];
+        for function in FUNCTIONS {
+            let row = &self.rows[function as usize];
+            let _ = write!(
+                lines,
+                "  {:16} {:>10} calls, {:>10} answered",
+                function.title(),
+                row.calls,
+                row.numbers[0]
+            );
+            for (kind, word) in [(1, "value"), (2, "absent"), (3, "not known")] {
+                if function.kinds().contains(&kind) {
+                    let _ = write!(lines, ", {word} {}", row.kinds[kind as usize]);
+                }
+            }
+            lines.push('\n');
+            for (number, count) in row.numbers.iter().enumerate().skip(1) {
+                totals[number] += count;
+            }
+        }
+        let list = |counts: &[u64], from: usize| {
+            let words: Vec<String> = counts
+                .iter()
+                .enumerate()
+                .skip(from)
+                .filter(|(_, count)| **count > 0)
+                .map(|(number, count)| format!("{number}: {count}"))
+                .collect();
+            words.join(", ")
+        };
+        let _ = writeln!(lines, "  refusals by number: {}", list(&totals, 1));
+        let _ = writeln!(lines, "  rules carried by 3: {}", list(&self.rules, 1));
+        let _ = writeln!(lines, "  fields carried by 8: {}", list(&self.misfits, 0));
+        let _ = writeln!(
+            lines,
+            "  rights: installable {}, restricted {}, preview {}, editable {}",
+            self.rights[0], self.rights[1], self.rights[2], self.rights[3]
+        );
+        let _ = writeln!(
+            lines,
+            "  optical sizes: every {}, upwards {}, between {}",
+            self.sizes[1], self.sizes[2], self.sizes[3]
+        );
+        let widths: Vec<String> = WIDTHS
+            .iter()
+            .zip(self.widths)
+            .map(|(width, count)| format!("{width}: {count}"))
+            .collect();
+        let _ = writeln!(lines, "  width percents: {}", widths.join(", "));
+        lines
+    }
+
+    /// What a long run at random must meet and this one did not.
+    pub fn not_met(&self) -> Vec<String> {
+        let mut missing = Vec::new();
+        let mut need = |count: u64, what: String| {
+            if count == 0 {
+                missing.push(what);
+            }
+        };
+        for function in FUNCTIONS {
+            let row = &self.rows[function as usize];
+            let title = function.title();
+            need(row.numbers[0], format!("{title}: an answer"));
+            for &number in function.refusals() {
+                need(
+                    row.numbers[number as usize],
+                    format!("{title}: refusal {number}"),
+                );
+            }
+            for &kind in function.kinds() {
+                let word = ["", "a value", "absent", "not known"][kind as usize];
+                need(row.kinds[kind as usize], format!("{title}: {word}"));
+            }
+            if matches!(
+                function,
+                Function::SelectionBit | Function::UnicodeBit | Function::CodePageBit
+            ) {
+                need(row.bits[0], format!("{title}: a clear bit"));
+                need(row.bits[1], format!("{title}: a set bit"));
+            }
+        }
+        for rule in 1..8 {
+            need(self.rules[rule], format!("rule {rule} broken"));
+        }
+        // Field 0 is the version, which refusal 4 judges first.
+        for field in 1..48 {
+            need(self.misfits[field], format!("a misfit in field {field}"));
+        }
+        for (rights, word) in ["installable", "restricted", "preview", "editable"]
+            .iter()
+            .enumerate()
+        {
+            need(self.rights[rights], format!("rights {word}"));
+        }
+        for (sizes, word) in [(1, "every"), (2, "upwards"), (3, "between")] {
+            need(self.sizes[sizes], format!("optical sizes {word}"));
+        }
+        for (place, width) in WIDTHS.iter().enumerate() {
+            need(self.widths[place], format!("width {width} percent"));
+        }
+        missing
+    }
+}
