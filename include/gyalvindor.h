@@ -1,18 +1,28 @@
 /*
  * Gyalvindor: a proved reader of a font's 'name' and 'OS/2' tables, and a proved writer of 'OS/2' tables.
  *
- * Link with libgyalvindor.a, which `rt staticlib gyalvindor` builds. The library holds no state, allocates nothing,
- * keeps no pointer after a call and never fails: every call answers, whatever the bytes and numbers are. Any number of
- * threads may call it at once.
+ * Building. `rt staticlib gyalvindor`, run in the repository's root, makes the archive. Then:
  *
- * A table is lent as a pointer to its first byte and its length in bytes. Pointers must not be NULL, also where the
- * length is 0. Only gv_os2_write and gv_os2_rewrite write to memory, and only to the room that they are lent.
+ *     cc -Iinclude program.c target/staticlib/libgyalvindor.a
+ *
+ * Of the C library the archive needs memcpy and memset only. It holds no state, allocates nothing, keeps no pointer after a
+ * call and never fails: every call answers, whatever the bytes and numbers are. Any number of threads may call it at once.
+ *
+ * Tables. A table is lent as a pointer to its first byte and its length in bytes. It is the bytes of one table, not of a
+ * whole font; finding tables in a font file is left to the caller. Pointers must not be NULL, also where the length is 0.
+ * Only gv_os2_write and gv_os2_rewrite write to memory.
+ *
+ * Answers. Every function gives a struct by value. Look at its refusal first: where refusal.number is not 0 there is no
+ * answer, and the number says why. Every function checks the whole table before it answers, so gv_name_check and gv_os2_check
+ * need not be called first.
  *
  *     gv_number weight = gv_os2_field(table, length, 5, GV_WEIGHT);
  *     if (weight.refusal.number != 0)
  *         printf("refused %u\n", (unsigned)weight.refusal.number);
  *     else if (weight.kind == GV_VALUE)
  *         printf("weight %lld\n", (long long)weight.value);
+ *
+ * examples/face.c uses every function.
  */
 #ifndef GYALVINDOR_H
 #define GYALVINDOR_H
@@ -25,8 +35,9 @@ extern "C" {
 #endif
 
 /*
- * A refusal. `number` is 0 where the call is not refused; then all members are 0. Where it is refused, the members beside
- * the refusal are 0 in every answer.
+ * A refusal. Where the call is not refused, `number` is 0, and so are `carries` and `carried`. Where it is refused, all
+ * members after the refusal are 0, in every answer. Where several refusals apply, the one that is given is the first in the
+ * order that stands at the function. Records and tags are counted from 0.
  *
  *   number  given exactly when                                              carried
  *     1     the level is above 5                                            -
@@ -54,6 +65,16 @@ extern "C" {
  *    23     a PostScript string is ill-formed                               -
  *    24     the two PostScript strings differ                               -
  *    25     no version number in the string                                 -
+ *
+ * The rules for OS/2 values that refusal 3 carries:
+ *
+ *   1  weight 1 to 1000
+ *   2  width 1 to 9
+ *   3  fsType bits 0, 4 to 7, 10 to 15 clear
+ *   4  at most one of fsType bits 1, 2, 3 set
+ *   5  fsSelection bits 10 to 15 clear, and bits 7 to 9 clear in versions below 4
+ *   6  fsSelection bit 6 set means bits 0 and 5 clear
+ *   7  in version 5, lower optical size below upper
  */
 typedef struct gv_refusal {
     uint32_t number;  /* the number above, or 0 */
@@ -63,36 +84,44 @@ typedef struct gv_refusal {
 
 /* ---- 'name' tables */
 
-/* A string of the table: where it starts, counted from the table's first byte, and how many bytes it has. */
+/* A string of the table: where it starts, counted from the table's first byte, and how many bytes it has. All of it lies in
+   the table: the bytes are table[start] to table[start + length - 1]. No zero byte is put after it. */
 typedef struct gv_text {
     gv_refusal refusal;
     size_t start;
     size_t length;
 } gv_text;
 
-/* A version number: the figures before and after the period. */
+/* A version number: the figures before and after the period, each below 65535. */
 typedef struct gv_version {
     gv_refusal refusal;
     uint32_t major;
     uint32_t minor;
 } gv_version;
 
-/* Is the table accepted? Refusals 10 to 18. */
+/* Is the table accepted? Refusals 10, 11, 12, 13, 14; then for each record 15, 18, 17; then for each tag 16. */
 gv_refusal gv_name_check(const uint8_t *table, size_t length);
 
-/* The string of the record with these four numbers. Refusals 10 to 18, then 20. Any numbers may be asked for: a part above
-   65535 is in no record. */
+/* The string of the record with these four numbers. Refusals as gv_name_check, then 20. Any numbers may be asked for: a part
+   above 65535 is in no record. */
 gv_text gv_name_lookup(const uint8_t *table, size_t length, uint32_t platform, uint32_t encoding, uint32_t language,
                        uint32_t name);
 
-/* The PostScript name, as the string of the record (1, 0, 0, 6). Refusals 10 to 18, then 21 to 24. */
+/* The PostScript name, as the string of the record (1, 0, 0, 6): one byte a character, 1 to 63 characters with codes 33 to
+   126. The record (3, 1, 0x409, 6) must hold the same name, two bytes a character. Refusals as gv_name_check, then 21, 22,
+   23, 24, in this order. */
 gv_text gv_name_postscript(const uint8_t *table, size_t length);
 
 /* The version number, from the string of the record (3, 1, 0x409, 5), or of (1, 0, 0, 5) where there is no such record.
-   Refusals 10 to 18, then 20, 25. */
+   It is the first place in the string with digits, a period, digits, both groups as long as they go and below 65535. Refusals
+   as gv_name_check, then 20, 25. */
 gv_version gv_name_version(const uint8_t *table, size_t length);
 
-/* ---- 'OS/2' tables. The level is the highest OS/2 version that the reader is to know, 0 to 5. */
+/* ---- 'OS/2' tables
+
+   There are versions 0 to 5 of this table. The level is the highest version that the caller wants to know, 0 to 5: what came
+   in with a later version is answered by GV_NOT_KNOWN. Give 5 to see all there is. A table whose version is above the level
+   is read as far as the level knows it, and the rules for values (refusal 3) are not applied to it. */
 
 /* What an answer is. */
 #define GV_REFUSED 0u   /* no answer: the call is refused */
@@ -135,7 +164,7 @@ typedef struct gv_style {
 #define GV_UPWARDS 2u  /* from `lower` upwards; `upper` is 0 */
 #define GV_BETWEEN 3u  /* between `lower` and `upper` */
 
-/* In points. */
+/* The optical sizes in points. Where `kind` is not GV_VALUE, the members after it are 0. */
 typedef struct gv_optical {
     gv_refusal refusal;
     uint32_t kind;
@@ -184,7 +213,7 @@ enum {
     GV_FIELDS = 48 /* how many there are */
 };
 
-/* Does the level accept the table? Refusals 1, 2, 3. */
+/* Does the level accept the table? Refusals 1, 2, 3, in this order. */
 gv_refusal gv_os2_check(const uint8_t *table, size_t length, uint32_t level);
 
 /* Field 0 to 47. Refusals 1, 6, 2, 3, in this order. */
@@ -199,13 +228,13 @@ gv_number gv_os2_unicode_bit(const uint8_t *table, size_t length, uint32_t level
 /* Bit 0 to 63 of the code pages. Refusals 1, 7, 2, 3, in this order. */
 gv_number gv_os2_code_page_bit(const uint8_t *table, size_t length, uint32_t level, uint32_t number);
 
-/* What fsType allows. Refusals 1, 2, 3. */
+/* What fsType allows. Refusals 1, 2, 3, in this order. */
 gv_rights gv_os2_rights(const uint8_t *table, size_t length, uint32_t level);
 
-/* The weight and the width in percent. Refusals 1, 2, 3. */
+/* The weight and the width in percent. Refusals 1, 2, 3, in this order. */
 gv_style gv_os2_style_position(const uint8_t *table, size_t length, uint32_t level);
 
-/* The optical sizes that the face is meant for. Refusals 1, 2, 3. */
+/* The optical sizes that the face is meant for. Refusals 1, 2, 3, in this order. */
 gv_optical gv_os2_optical_sizes(const uint8_t *table, size_t length, uint32_t level);
 
 /* ---- writing 'OS/2' tables */
@@ -216,13 +245,13 @@ typedef struct gv_written {
     size_t size;
 } gv_written;
 
-/* Writes the table of 48 numbers, of which number 0 is the version, at the start of the room; no later byte is touched. Numbers
-   for fields that the version lacks are not looked at. Refusals 4, 5, 8, 3, in this order. A version needs 78 bytes (0), 86 (1),
-   96 (2, 3, 4) or 100 (5). */
+/* Writes the table of 48 numbers, of which number 0 is the version, at the start of the room; no later byte is touched.
+   Numbers for fields that the version lacks are not looked at. Refusals 4, 5, 8, 3, in this order. A version needs 78 bytes
+   (0), 86 (1), 96 (2, 3, 4) or 100 (5). */
 gv_written gv_os2_write(const int64_t numbers[GV_FIELDS], uint8_t *room, size_t length);
 
 /* Reads a table at level 5 and writes its fields: the same bytes, up to its version's size. Table and room must not overlap.
-   Refusals 2, 3, then 4, 5. */
+   Refusals 2, 3, 4, 5, in this order. */
 gv_written gv_os2_rewrite(const uint8_t *table, size_t table_length, uint8_t *room, size_t length);
 
 #ifdef __cplusplus

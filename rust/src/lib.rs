@@ -4,9 +4,9 @@
 //! strings in several languages, and 'OS/2' holds some fifty numbers. This crate takes the bytes of such a table, wherever
 //! they come from, and answers questions on them. It does not open font files or find tables in them.
 //!
-//! The work is done by Gyalvindor, a library written in a language with proofs: what each function answers, for every input,
-//! is stated and proved, and no input makes it read outside the table, overflow, or not come to an end. The crate calls it
-//! through its C interface. It has no dependencies, needs no allocation and no standard library, and holds no state.
+//! The work is done by Gyalvindor, a library written in a language with proofs: what the reader and the writer answer, for
+//! every input, is stated and proved. The crate calls it through its C interface. It has no dependencies, needs no
+//! allocation and no standard library, and holds no state. Every call answers, whatever the bytes and numbers are.
 //!
 //! # Accepted and refused
 //!
