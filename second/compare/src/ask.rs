@@ -41,14 +41,17 @@ impl Asker {
 
     /// Asks one question of all sides. Gives the words that all answered.
     pub fn ask(&mut self, table: &[u8], question: Question) -> Result<Words, Difference> {
+        let function = question.function();
         let second = by_second::words(table, question);
         let archive = raw::words(table, question);
-        let krate = by_crate::words(table, question);
-        if archive != second || krate != second {
-            let function = question.function();
-            return Err(difference(&question, function, second, archive, krate));
+        if archive != second {
+            return Err(differ(&question, function, second, "archive", archive));
         }
-        self.counted(&question, question.function(), second)
+        let krate = by_crate::words(table, question);
+        if krate != second {
+            return Err(differ(&question, function, second, "crate", krate));
+        }
+        self.counted(&question, function, second)
     }
 
     fn counted(
@@ -323,19 +326,20 @@ impl Asker {
 /// Numbers that no field and no bit has.
 const OUT_OF_RANGE: [u32; 7] = [255, 256, 65_535, 65_536, 65_536 + 2, 1 << 31, u32::MAX];
 
-/// The message of a difference.
-fn difference(
+/// The message of a difference between the second program and another side.
+fn differ(
     question: &dyn Display,
     function: Function,
     second: Words,
-    archive: Words,
-    krate: Words,
+    side: &str,
+    words: Words,
 ) -> Difference {
     Difference(format!(
-        "{question}: the answers differ\n  second:  {}\n  archive: {}\n  crate:   {}\n",
+        "{question}: the answers differ\n  {:8} {}\n  {:8} {}\n",
+        "second:",
         shown(function, second),
-        shown(function, archive),
-        shown(function, krate)
+        format!("{side}:"),
+        shown(function, words)
     ))
 }
 
@@ -353,34 +357,36 @@ fn same_rooms(
     let before: Vec<u8> = (0..length + 2 * MARGIN)
         .map(|place| (place as u8).wrapping_mul(37).wrapping_add(pattern))
         .collect();
-    let mut words = [[0; 7]; 3];
-    let mut rooms = [before.clone(), before.clone(), before.clone()];
-    for side in 0..3 {
-        words[side] = sides[side](&mut rooms[side][MARGIN..MARGIN + length]);
-    }
-    if words[1] != words[0] || words[2] != words[0] {
-        return Err(difference(
-            &question, function, words[0], words[1], words[2],
-        ));
-    }
-    for (side, title) in [(1, "the archive"), (2, "the crate")] {
-        if let Some(place) = (0..before.len()).find(|&p| rooms[side][p] != rooms[0][p]) {
+    let mut expected = [0; 7];
+    let mut left = Vec::new();
+    for (side, (title, writing)) in ["second", "archive", "crate"].iter().zip(sides).enumerate() {
+        let mut room = before.clone();
+        let words = writing(&mut room[MARGIN..MARGIN + length]);
+        if side == 0 {
+            (expected, left) = (words, room);
+            continue;
+        }
+        if words != expected {
+            return Err(differ(question, function, expected, title, words));
+        }
+        if let Some(place) = (0..before.len()).find(|&place| room[place] != left[place]) {
             return Err(Difference(format!(
-                "{}: the rooms differ at byte {}, counted from the room's start\n  second:  {}\n  {title}: {}\n",
-                question,
+                "{question}: the rooms differ at byte {}, counted from the room's start\n  {:8} {}\n  {:8} {}\n",
                 place as i64 - MARGIN as i64,
-                rooms[0][place],
-                rooms[side][place]
+                "second:",
+                left[place],
+                format!("{title}:"),
+                room[place]
             )));
         }
     }
     // What document 01 says of lent memory, of all sides at once.
-    let touched = match words[0][0] {
-        0 => words[0][3] as usize,
+    let touched = match expected[0] {
+        0 => expected[3] as usize,
         _ => 0,
     };
     let outside = (0..before.len()).find(|&place| {
-        !(MARGIN..MARGIN + touched).contains(&place) && rooms[0][place] != before[place]
+        !(MARGIN..MARGIN + touched).contains(&place) && left[place] != before[place]
     });
     if let Some(place) = outside {
         return Err(Difference(format!(
@@ -389,7 +395,7 @@ fn same_rooms(
             place as i64 - MARGIN as i64
         )));
     }
-    Ok(words[0])
+    Ok(expected)
 }
 
 /// The keys of the records as far as the table's bytes go, accepted or not.

@@ -12,6 +12,7 @@ mod sides;
 mod tally;
 
 use std::io::{IsTerminal, Write};
+use std::panic::{self, AssertUnwindSafe};
 use std::path::{Path, PathBuf};
 use std::process::ExitCode;
 use std::time::{Duration, Instant, SystemTime, UNIX_EPOCH};
@@ -34,6 +35,13 @@ on the fonts under the folders. Without folders: the fonts installed on the mach
   --name FILE                only: ask everything of the 'name' table in this file
   --os2 FILE                 only: ask everything of the 'OS/2' table in this file
   --numbers FILE             only: write the 48 numbers in this file, one a line";
+
+/// Prints a line. Where nobody reads it, the comparison goes on.
+macro_rules! say {
+    ($($words:tt)*) => {
+        let _ = writeln!(io::stdout(), $($words)*);
+    };
+}
 
 /// A long run at random has to meet everything.
 const LONG: u64 = 100_000;
@@ -65,7 +73,7 @@ fn main() -> ExitCode {
     let task = match parse(env::args().skip(1).collect()) {
         Ok(Some(task)) => task,
         Ok(None) => {
-            println!("{USAGE}");
+            say!("{USAGE}");
             return ExitCode::SUCCESS;
         }
         Err(fault) => {
@@ -149,9 +157,9 @@ fn run(task: &Task) -> Result<(), Stop> {
             whole.add(&installed_fonts(task)?);
         }
     }
-    println!("in all: {}", whole.tables());
-    print!("{}", whole.report());
-    println!(
+    say!("in all: {}", whole.tables());
+    say!("{}", whole.report().trim_end());
+    say!(
         "{} calls compared, no difference, {:.1} seconds",
         whole.calls(),
         started.elapsed().as_secs_f64()
@@ -202,7 +210,7 @@ fn document_rows(task: &Task) -> Result<Tally, Stop> {
             stopped(task, &row.made(), difference, &place)
         })?;
     }
-    println!(
+    say!(
         "document 01: {} rows, {} calls",
         rows.len(),
         asker.tally.calls()
@@ -211,7 +219,7 @@ fn document_rows(task: &Task) -> Result<Tally, Stop> {
 }
 
 fn at_random(task: &Task) -> Result<Tally, Stop> {
-    println!(
+    say!(
         "at random: seed {}, tables {} to {}",
         task.seed,
         task.first,
@@ -228,8 +236,8 @@ fn at_random(task: &Task) -> Result<Tally, Stop> {
         progress.show(done);
     }
     progress.clear();
-    println!("at random: {}", asker.tally.tables());
-    println!("at random: {} calls", asker.tally.calls());
+    say!("at random: {}", asker.tally.tables());
+    say!("at random: {} calls", asker.tally.calls());
     let missing = asker.tally.not_met();
     if task.count >= LONG && !missing.is_empty() {
         return Err(Stop::Fault(format!(
@@ -238,11 +246,12 @@ fn at_random(task: &Task) -> Result<Tally, Stop> {
         )));
     }
     if missing.is_empty() {
-        println!(
-            "at random: every refusal, rule, field that does not fit and kind of answer was met"
-        );
+        say!("at random: every refusal, rule, field that does not fit and kind of answer was met");
     } else {
-        println!("at random: too few tables to meet: {}", missing.join("; "));
+        say!(
+            "at random: too few tables to meet everything; {} things are missing",
+            missing.len()
+        );
     }
     Ok(asker.tally)
 }
@@ -301,23 +310,22 @@ fn installed_fonts(task: &Task) -> Result<Tally, Stop> {
     progress.clear();
     if asker.tally.names[0] + asker.tally.os2s[0] == 0 {
         let shown: Vec<String> = folders.iter().map(|f| f.display().to_string()).collect();
+        let under = match shown.is_empty() {
+            true => "none of the folders for installed fonts is there".to_string(),
+            false => format!("there are none under {}", shown.join(", ")),
+        };
         return Err(Stop::Fault(format!(
-            "no fonts found under: {}. Name a folder that holds fonts",
-            if shown.is_empty() {
-                "(no folder)".to_string()
-            } else {
-                shown.join(", ")
-            }
+            "no fonts found: {under}. Name a folder that holds fonts"
         )));
     }
-    println!(
+    say!(
         "fonts: {} files, {faces} fonts, of which {} have no name table and {} no OS/2 table",
         files.len(),
         without[0],
         without[1]
     );
-    println!("fonts: {}", asker.tally.tables());
-    println!("fonts, damaged: {}", damaged.tally.tables());
+    say!("fonts: {}", asker.tally.tables());
+    say!("fonts, damaged: {}", damaged.tally.tables());
     asker.tally.add(&damaged.tally);
     Ok(asker.tally)
 }
@@ -370,10 +378,10 @@ fn one_lazily(
             let after = 16 + numbers.below(8);
             around.extend(numbers.bytes(after));
             let lent = &around[before..before + bytes.len()];
-            let result = match made {
+            let result = caught(|| match made {
                 Made::Name(_) => asker.name(lent, amount, numbers),
                 _ => asker.os2(lent, amount, numbers),
-            };
+            });
             match result {
                 Ok(()) if lent != bytes => Err(Difference(
                     "a question changed the table that was lent for reading\n".to_string(),
@@ -381,9 +389,19 @@ fn one_lazily(
                 result => result,
             }
         }
-        Made::Numbers(values) => asker.numbers(values, amount, numbers),
+        Made::Numbers(values) => caught(|| asker.numbers(values, amount, numbers)),
     };
     result.map_err(|difference| stopped(task, made, difference, &place()))
+}
+
+/// The result of the questions; a panic of the second program or of the crate is a difference too.
+fn caught(questions: impl FnOnce() -> Result<(), Difference>) -> Result<(), Difference> {
+    match panic::catch_unwind(AssertUnwindSafe(questions)) {
+        Ok(result) => result,
+        Err(_) => Err(Difference(
+            "a side panicked; its message stands above\n".to_string(),
+        )),
+    }
 }
 
 /// Writes the bytes of a difference to a file and gives the whole message.

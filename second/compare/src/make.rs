@@ -517,12 +517,15 @@ fn name_fault(n: &mut Numbers, plan: &mut Plan) {
         16..=18 if records > 0 => {
             let record = n.below(records);
             plan.records[record].key[2] = language(n, plan.tags.len());
-            if n.chance(1, 2) {
-                plan.records[record].key[0] = platform(n);
-                let mut sorted = plan.records.clone();
-                sorted.sort_by_key(|record| record.key);
-                plan.records = sorted;
+            match n.below(3) {
+                0 => return,
+                1 => plan.records[record].key[0] = platform(n),
+                _ => {
+                    plan.records[record].key[0] = n.pick(&[239, 240, 255, 256]);
+                    plan.records[record].key[2] |= 0x8000;
+                }
             }
+            plan.records.sort_by_key(|record| record.key);
         }
         _ => {
             // The storage loses or gains a byte, so that the last string passes its end or doesn't reach it.
