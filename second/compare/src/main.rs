@@ -9,6 +9,7 @@ mod question;
 mod raw;
 mod rows;
 mod sides;
+mod sweeps;
 mod tally;
 
 use std::io::{IsTerminal, Write};
@@ -24,17 +25,19 @@ use numbers::Numbers;
 use tally::Tally;
 
 const USAGE: &str = "usage: compare [OPTION]... [FOLDER]...
-Compares the archive and the Rust crate over it with the second program on document 01's rows, on tables made at random, and
-on the fonts under the folders. Without folders: the fonts installed on the machine.
+Compares the archive and the Rust crate over it with the second program on document 01's rows, in sweeps over the places that
+the rules look at, on tables made at random, and on the fonts under the folders. Without folders: the fonts installed on the
+machine.
 
-  --rows, --random, --fonts  only these parts
-  --count N                  how many tables are made at random (1000000)
-  --seed S                   the seed (taken from the clock)
-  --first K                  number of the first table that is made (0)
-  --bytes FOLDER             where the bytes of a difference are written (the folder for passing files)
-  --name FILE                only: ask everything of the 'name' table in this file
-  --os2 FILE                 only: ask everything of the 'OS/2' table in this file
-  --numbers FILE             only: write the 48 numbers in this file, one a line";
+  --rows, --sweeps, --random, --fonts
+                  only these parts
+  --count N       how many tables are made at random (1000000)
+  --seed S        the seed (taken from the clock)
+  --first K       number of the first table that is made (0)
+  --bytes FOLDER  where the bytes of a difference are written (the folder for passing files)
+  --name FILE     only: ask everything of the 'name' table in this file
+  --os2 FILE      only: ask everything of the 'OS/2' table in this file
+  --numbers FILE  only: write the 48 numbers in this file, one a line";
 
 /// Prints a line. Where nobody reads it, the comparison goes on.
 macro_rules! say {
@@ -51,6 +54,7 @@ const DAMAGED: u64 = 50;
 /// What the program is told to do.
 struct Task {
     rows: bool,
+    sweeps: bool,
     random: bool,
     fonts: bool,
     count: u64,
@@ -99,6 +103,7 @@ fn parse(arguments: Vec<String>) -> Result<Option<Task>, String> {
     let clock = SystemTime::now().duration_since(UNIX_EPOCH);
     let mut task = Task {
         rows: false,
+        sweeps: false,
         random: false,
         fonts: false,
         count: 1_000_000,
@@ -121,6 +126,7 @@ fn parse(arguments: Vec<String>) -> Result<Option<Task>, String> {
         match argument.as_str() {
             "--help" | "-h" => return Ok(None),
             "--rows" => task.rows = true,
+            "--sweeps" => task.sweeps = true,
             "--random" => task.random = true,
             "--fonts" => task.fonts = true,
             "--count" => task.count = number(after()?)?,
@@ -135,8 +141,8 @@ fn parse(arguments: Vec<String>) -> Result<Option<Task>, String> {
             _ => task.folders.push(PathBuf::from(argument)),
         }
     }
-    if !(task.rows || task.random || task.fonts) {
-        (task.rows, task.random, task.fonts) = (true, true, true);
+    if !(task.rows || task.sweeps || task.random || task.fonts) {
+        (task.rows, task.sweeps, task.random, task.fonts) = (true, true, true, true);
     }
     Ok(Some(task))
 }
@@ -149,6 +155,9 @@ fn run(task: &Task) -> Result<(), Stop> {
     } else {
         if task.rows {
             whole.add(&document_rows(task)?);
+        }
+        if task.sweeps {
+            whole.add(&sweeps_over(task)?);
         }
         if task.random {
             whole.add(&at_random(task)?);
@@ -215,6 +224,25 @@ fn document_rows(task: &Task) -> Result<Tally, Stop> {
         rows.len(),
         asker.tally.calls()
     );
+    Ok(asker.tally)
+}
+
+fn sweeps_over(task: &Task) -> Result<Tally, Stop> {
+    let mut asker = Asker::new();
+    let terminal = io::stderr().is_terminal();
+    for (words, sweep) in sweeps::SWEEPS {
+        if terminal {
+            eprint!("\r{:60}\rsweep: {words} ", "");
+        }
+        sweep(&mut asker).map_err(|found| {
+            let place = format!("a table of the sweep \"{}\"", found.sweep);
+            stopped(task, &found.made, found.difference, &place)
+        })?;
+    }
+    if terminal {
+        eprint!("\r{:60}\r", "");
+    }
+    say!("sweeps: {} calls", asker.tally.calls());
     Ok(asker.tally)
 }
 

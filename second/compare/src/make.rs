@@ -601,7 +601,7 @@ const LOWER: usize = 46;
 const UPPER: usize = 47;
 
 /// The lowest and the highest number of a field.
-fn range(field: usize) -> (i64, i64) {
+pub fn range(field: usize) -> (i64, i64) {
     let numbers = 1_i64 << (8 * FIELDS[field].bytes);
     if FIELDS[field].signed {
         (-numbers / 2, numbers / 2 - 1)
