@@ -20,7 +20,7 @@ pub struct Text {
 }
 
 impl Text {
-    /// The string's bytes, as a range in the table that was asked. It lies inside that table.
+    /// The string's bytes, as a range in the table that the answer is on. It lies inside that table.
     ///
     /// ```
     /// use gyalvindor::name::Text;

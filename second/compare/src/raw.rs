@@ -1,5 +1,5 @@
-//! The archive's answers, word by word, through an extern block of its own: `include/gyalvindor.h` is what it was written
-//! from. So members that a caller is not meant to look at are seen too.
+//! The archive's answers, word by word, through an extern block of its own that follows `include/gyalvindor.h`. So members
+//! that a caller is not meant to look at are seen too.
 
 use crate::question::{Question, Words};
 
