@@ -458,7 +458,7 @@ fn name_fault(n: &mut Numbers, plan: &mut Plan) {
     let records = plan.records.len();
     let storage = plan.storage.len();
     let whole = plan.front() + plan.gap.len() + storage;
-    match n.below(20) {
+    match n.below(23) {
         0 => plan.format = n.pick(&[2, 3, 0x0100, 0x8000, 0xFFFF]),
         1 => plan.format ^= 1,
         2 => {
@@ -526,6 +526,23 @@ fn name_fault(n: &mut Numbers, plan: &mut Plan) {
                 }
             }
             plan.records.sort_by_key(|record| record.key);
+        }
+        19..=21 if records > 1 => {
+            // Several faults at one record: which is told depends on their order.
+            let later = 1 + n.below(records - 1);
+            let before = plan.records[later - 1].key;
+            let tags = plan.tags.len();
+            let record = &mut plan.records[later];
+            if n.chance(1, 2) {
+                [record.length, record.offset] = string_at_edge(n, storage);
+            }
+            if n.chance(2, 3) {
+                record.key[2] = (0x8000 + tags + n.below(3)) as u16;
+            }
+            if n.chance(2, 3) {
+                record.key[0] = before[0].saturating_sub(n.below(2) as u16);
+                record.key[1] = before[1].saturating_sub(n.below(2) as u16);
+            }
         }
         _ => {
             // The storage loses or gains a byte, so that the last string passes its end or doesn't reach it.
