@@ -1,6 +1,7 @@
 //! Asks all sides the same question and stops at the first difference.
 
 use std::fmt::Display;
+use std::panic::{self, AssertUnwindSafe};
 
 use crate::numbers::Numbers;
 use crate::question::{shown, Function, Question, Words};
@@ -16,6 +17,16 @@ const MARGIN: usize = 24;
 /// A difference, or an answer that document 01 has no place for, in whole lines.
 #[derive(Debug)]
 pub struct Difference(pub String);
+
+/// The result of the questions; a panic of the second program or of the crate is a difference too.
+pub fn caught(questions: impl FnOnce() -> Result<(), Difference>) -> Result<(), Difference> {
+    match panic::catch_unwind(AssertUnwindSafe(questions)) {
+        Ok(result) => result,
+        Err(_) => Err(Difference(
+            "a side panicked; its message stands above\n".to_string(),
+        )),
+    }
+}
 
 /// How much is asked of a table.
 #[derive(Clone, Copy, PartialEq, Eq)]

@@ -13,13 +13,12 @@ mod sweeps;
 mod tally;
 
 use std::io::{IsTerminal, Write};
-use std::panic::{self, AssertUnwindSafe};
 use std::path::{Path, PathBuf};
 use std::process::ExitCode;
 use std::time::{Duration, Instant, SystemTime, UNIX_EPOCH};
 use std::{env, fs, io, process};
 
-use ask::{Amount, Asker, Difference};
+use ask::{caught, Amount, Asker, Difference};
 use make::Made;
 use numbers::Numbers;
 use tally::Tally;
@@ -214,7 +213,7 @@ fn document_rows(task: &Task) -> Result<Tally, Stop> {
     let mut asker = Asker::new();
     let rows = rows::rows();
     for row in &rows {
-        rows::ask(&mut asker, row).map_err(|difference| {
+        caught(|| rows::ask(&mut asker, row)).map_err(|difference| {
             let place = format!("document 01's row \"{}\"", row.words);
             stopped(task, &row.made(), difference, &place)
         })?;
@@ -420,16 +419,6 @@ fn one_lazily(
         Made::Numbers(values) => caught(|| asker.numbers(values, amount, numbers)),
     };
     result.map_err(|difference| stopped(task, made, difference, &place()))
-}
-
-/// The result of the questions; a panic of the second program or of the crate is a difference too.
-fn caught(questions: impl FnOnce() -> Result<(), Difference>) -> Result<(), Difference> {
-    match panic::catch_unwind(AssertUnwindSafe(questions)) {
-        Ok(result) => result,
-        Err(_) => Err(Difference(
-            "a side panicked; its message stands above\n".to_string(),
-        )),
-    }
 }
 
 /// Writes the bytes of a difference to a file and gives the whole message.

@@ -3,7 +3,7 @@
 
 use second::os2::{size, FIELDS};
 
-use crate::ask::{Asker, Difference, LEVELS};
+use crate::ask::{caught, Asker, Difference, LEVELS};
 use crate::make::{range, Made};
 use crate::question::Question;
 
@@ -29,12 +29,13 @@ fn ask(asker: &mut Asker, sweep: &str, made: &Made, questions: &[Question]) -> R
     let (Made::Name(table) | Made::Os2(table)) = made else {
         return Ok(());
     };
-    for &question in questions {
-        asker
-            .ask(table, question)
-            .map_err(|difference| found(difference, made, sweep))?;
-    }
-    Ok(())
+    caught(|| {
+        for &question in questions {
+            asker.ask(table, question)?;
+        }
+        Ok(())
+    })
+    .map_err(|difference| found(difference, made, sweep))
 }
 
 fn found(difference: Difference, made: &Made, sweep: &str) -> Found {
