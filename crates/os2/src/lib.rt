@@ -344,11 +344,11 @@ fn surely_accepts(table: &[u8], known: Level) -> bool
     if table.len() < 2 {
         return false;
     }
-    let version = version_of(table);
-    if known.number() < version {
+    let version = os2_fields::version(table);
+    if known.number() < version as u32 {
         return false;
     }
-    if table.len() < level::version_size(version) {
+    if table.len() < level::version_size(version as u32) {
         return false;
     }
     os2_rules::keeps(os2_fields::values(table))

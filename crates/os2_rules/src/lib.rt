@@ -1,6 +1,7 @@
 // The seven value rules of an 'OS/2' table, on the values that they look at.
 // Document 01, "The 'OS/2' fields", value rules 1 to 7. The reader and the writer share them.
 ghost use mathlib.Core.Path.{_≡_};
+ghost use mathlib.Core.Bool.{_||_};
 ghost use Rattle.os2_rules.specs.Tests.{weightBroken, widthBroken, typeBroken, rightsBroken, selectionBroken, regularBroken, sizesBroken, verdictOf, isKept};
 
 // The values that the rules look at. The optical sizes are those of version 5 and are not looked at in another.
@@ -54,10 +55,45 @@ pub fn judge(v: Values) -> Verdict
 pub fn keeps(v: Values) -> bool
     ensures { λ r. ⌜ r ≡ isKept (verdictOf v) ⌝ }
 {
-    match judge(v) {
-        Verdict::Kept => true,
-        Verdict::Broken(_) => false,
+    if weight_broken(v.weight) {
+        return false;
     }
+    if width_broken(v.width) {
+        return false;
+    }
+    if fstype_broken(v.version, v.fstype) {
+        return false;
+    }
+    if fsselection_broken(v.version, v.fsselection) {
+        return false;
+    }
+    !sizes_broken(v.version, v.lower, v.upper)
+}
+
+// Rules 3 and 4. An fsType of 0, as most fonts have, breaks neither.
+fn fstype_broken(version: u16, fstype: u16) -> bool
+    ensures { λ r. ⌜ r ≡ (typeBroken fstype || rightsBroken version fstype) ⌝ }
+{
+    if fstype == 0 {
+        return false;
+    }
+    if type_broken(fstype) {
+        return true;
+    }
+    rights_broken(version, fstype)
+}
+
+// Rules 5 and 6. An fsSelection below 128, as most fonts have, does not break rule 5.
+fn fsselection_broken(version: u16, fsselection: u16) -> bool
+    ensures { λ r. ⌜ r ≡ (selectionBroken version fsselection || regularBroken fsselection) ⌝ }
+{
+    if fsselection < 128 {
+        return regular_broken(fsselection);
+    }
+    if selection_broken(version, fsselection) {
+        return true;
+    }
+    regular_broken(fsselection)
 }
 
 // Rule 1.

@@ -9,31 +9,37 @@ use Rattle.level.specs.Levels.{numberOf}
 use Rattle.level.specs.Sizes.{tableSize}
 use Rattle.os2_rules.specs.Tests.{verdictOf, isKept}
 use Rattle.os2_rules.proofs.Exactly.{kept-exactly, kept-true}
-use Rattle.os2_fields.specs.Fields.{version}
+use Rattle.os2_fields.specs.Fields as fields
 use Rattle.os2.proofs.Accepting.{judged-exactly}
 use borrow.Author.Needs.{needs}
 use Rattle.os2.proofs.surely_accepts.Statement.{statement}
 use Rattle.os2.proofs.surely_accepts.Tie as tie
 
 -- the table has the size of its version
-sized : (c : tie.Else3) → tableSize (version (c .before .before .before .before .before .before .before .args .table .now)) ≤ length (c .before .before .before .before .before .before .before .args .table .now)
-sized c = rw (c .before .version-size .ensures, c .before .before .before .before .version-of .ensures) at (c .if3 .left)
+sized : (c : tie.Else3) → tableSize (fields.version (c .before .before .before .before .before .before .before .args .table .now)) ≤ length (c .before .before .before .before .before .before .before .args .table .now)
+sized c = rw (c .before .version-size .ensures, c .before .before .before .before .version .ensures) at (c .if3 .left)
 
 -- the version is at most the level
-known : (c : tie.Else2) → version (c .before .before .before .before .before .args .table .now) ≤ numberOf (c .before .before .before .before .before .args .known)
-known c = rw (c .before .number .ensures, c .before .before .version-of .ensures) at (c .if2 .left)
+known : (c : tie.Else2) → fields.version (c .before .before .before .before .before .args .table .now) ≤ numberOf (c .before .before .before .before .before .args .known)
+known c = rw (c .before .number .ensures, c .before .before .version .ensures) at (c .if2 .left)
 
 returns : tie.Need-returns
 returns c = λ e. absurd (false≢true e)
 
-version-of-requires : tie.Need-version-of-requires
-version-of-requires c κs = search needs
+version-requires : tie.Need-version-requires
+version-requires c κs = search needs
 
 number-requires : tie.Need-number-requires
 number-requires c κs = search needs
 
+cast-if2 : tie.Need-cast-if2
+cast-if2 c = search needs
+
 returns-2 : tie.Need-returns-2
 returns-2 c = λ e. absurd (false≢true e)
+
+cast-version-size : tie.Need-cast-version-size
+cast-version-size c = search needs
 
 version-size-requires : tie.Need-version-size-requires
 version-size-requires c κs = search needs
@@ -65,9 +71,11 @@ surely-accepts-spec =
     tie.close
     (tie.spec
     returns
-    version-of-requires
+    version-requires
     number-requires
+    cast-if2
     returns-2
+    cast-version-size
     version-size-requires
     returns-3
     values-requires
