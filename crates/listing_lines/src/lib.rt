@@ -1,4 +1,4 @@
-// The lines of the listing of a 'name' table, each from plain numbers.
+// The lines of the listing of a 'name' table, each from plain numbers, and the pieces that a line is put together from.
 // Document 01, end of "Examples to check against". It relies on nothing below.
 ghost use Prim.Native.Nat.{_+_, _≤_};
 ghost use mathlib.Core.Path.{_≡_};
@@ -115,6 +115,30 @@ pub fn append(out: &mut [u8], at: usize, line: Line) -> usize
     put_first(out, at, bytes, line.len)
 }
 
+// Puts a text and a number's digits behind the first `at` bytes, and answers where they end.
+pub fn put_numbered(out: &mut [u8], at: usize, text: &[u8], n: u64) -> usize
+    requires { ⌜ at + length (now text) + 20 ≤ length (now out) ⌝ }
+    ensures { λ r. ⌜ Put (now (out .entry)) at (now (out .exit)) r (length (now (text .entry)) + 20) (now (text .entry) ++ decimal n) ⌝ }
+{
+    let text_end = put(out, at, text);
+    let mut digits = [0u8; 20];
+    let start = spell(&mut digits, n);
+    put(out, text_end, &digits[start..])
+}
+
+// Puts a text behind the first `at` bytes, and answers where it ends.
+pub fn put(out: &mut [u8], at: usize, text: &[u8]) -> usize
+    requires { ⌜ at + length (now text) ≤ length (now out) ⌝ }
+    ensures { λ r. ⌜ Put (now (out .entry)) at (now (out .exit)) r (length (now (text .entry))) (now (text .entry)) ⌝ }
+{
+    let mut i = 0;
+    while i < text.len() {
+        out[at + i] = text[i];
+        i += 1;
+    }
+    at + i
+}
+
 // Puts the first `len` of 160 bytes behind the first `at`, and answers where they end.
 fn put_first(out: &mut [u8], at: usize, bytes: [u8; 160], len: usize) -> usize
     requires { ⌜ at + 160 ≤ length (now out) ⌝ }
@@ -147,30 +171,6 @@ fn two_numbered_line(text: &[u8], n: u64, other: &[u8], m: u64) -> Line
     let end = put_numbered(&mut bytes, middle, other, m);
     let len = put(&mut bytes, end, b"\n");
     Line { bytes, len }
-}
-
-// Puts a text and a number's digits behind the first `at` bytes, and answers where they end.
-fn put_numbered(out: &mut [u8], at: usize, text: &[u8], n: u64) -> usize
-    requires { ⌜ at + length (now text) + 20 ≤ length (now out) ⌝ }
-    ensures { λ r. ⌜ Put (now (out .entry)) at (now (out .exit)) r (length (now (text .entry)) + 20) (now (text .entry) ++ decimal n) ⌝ }
-{
-    let text_end = put(out, at, text);
-    let mut digits = [0u8; 20];
-    let start = spell(&mut digits, n);
-    put(out, text_end, &digits[start..])
-}
-
-// Puts a text behind the first `at` bytes, and answers where it ends.
-fn put(out: &mut [u8], at: usize, text: &[u8]) -> usize
-    requires { ⌜ at + length (now text) ≤ length (now out) ⌝ }
-    ensures { λ r. ⌜ Put (now (out .entry)) at (now (out .exit)) r (length (now (text .entry))) (now (text .entry)) ⌝ }
-{
-    let mut i = 0;
-    while i < text.len() {
-        out[at + i] = text[i];
-        i += 1;
-    }
-    at + i
 }
 
 // Puts the digits of a number at the end of twenty bytes, and answers where they start.

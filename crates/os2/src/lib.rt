@@ -394,7 +394,7 @@ fn size_read(version: u32, known: Level) -> usize
 }
 
 // A field of an accepted table.
-fn field_answer(table: &[u8], level: u32, k: usize) -> Answer
+pub fn field_answer(table: &[u8], level: u32, k: usize) -> Answer
     requires { ⌜ (k < 48) × (judged level (now table) ≡ accepted) ⌝ }
     ensures { λ r. ⌜ saidAnswer r ≡ given level (now (table .entry)) (Question.Field k) ⌝ }
 {
@@ -439,7 +439,7 @@ fn selection_since(n: u32) -> u32
 }
 
 // Rights of an accepted table.
-fn rights_answer(table: &[u8], level: u32) -> RightsAnswer
+pub fn rights_answer(table: &[u8], level: u32) -> RightsAnswer
     requires { ⌜ judged level (now table) ≡ accepted ⌝ }
     ensures { λ r. ⌜ saidRightsAnswer r ≡ given level (now (table .entry)) Question.Rights ⌝ }
 {
@@ -450,7 +450,7 @@ fn rights_answer(table: &[u8], level: u32) -> RightsAnswer
 }
 
 // The style position of an accepted table.
-fn style_answer(table: &[u8], level: u32) -> StyleAnswer
+pub fn style_answer(table: &[u8], level: u32) -> StyleAnswer
     requires { ⌜ judged level (now table) ≡ accepted ⌝ }
     ensures { λ r. ⌜ saidStyleAnswer r ≡ given level (now (table .entry)) Question.StylePosition ⌝ }
 {
@@ -464,7 +464,7 @@ fn style_answer(table: &[u8], level: u32) -> StyleAnswer
 }
 
 // Optical sizes of an accepted table.
-fn optical_answer(table: &[u8], level: u32) -> OpticalAnswer
+pub fn optical_answer(table: &[u8], level: u32) -> OpticalAnswer
     requires { ⌜ judged level (now table) ≡ accepted ⌝ }
     ensures { λ r. ⌜ saidOpticalAnswer r ≡ given level (now (table .entry)) Question.OpticalSizes ⌝ }
 {

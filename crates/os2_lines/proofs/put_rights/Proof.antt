@@ -1,0 +1,75 @@
+-- The text is that of the answer, case by case.
+-- Assumes nothing.
+use mathlib.Core.Path.{sym, ap, _∙_}
+use native.Mathlib.Omega.{arith}
+use Rattle.os2.specs.Replies.{saidRightsAnswer}
+use Rattle.os2_lines.specs.Listings.{answerText}
+use Rattle.os2_lines.proofs.Laws.{put-as}
+use borrow.Author.Needs.{needs}
+use Rattle.os2_lines.proofs.put_rights.Statement.{statement}
+use Rattle.os2_lines.proofs.put_rights.Tie as tie
+
+rights-answer-requires : tie.Need-rights-answer-requires
+rights-answer-requires c κs = search needs
+
+enum-known-rights : tie.Need-enum-known-rights
+enum-known-rights c = search needs
+
+put-rights-name-requires : tie.Need-put-rights-name-requires
+put-rights-name-requires c κs = search needs
+
+enum-told : tie.Need-enum-told
+enum-told c = search needs
+
+slice-aggregate-put : tie.Need-slice-aggregate-put
+slice-aggregate-put c = search needs
+
+put-requires : tie.Need-put-requires
+put-requires c κs = search needs
+
+enum-told-2 : tie.Need-enum-told-2
+enum-told-2 c = search needs
+
+slice-aggregate-put-2 : tie.Need-slice-aggregate-put-2
+slice-aggregate-put-2 c = search needs
+
+put-requires-2 : tie.Need-put-requires-2
+put-requires-2 c κs = search needs
+
+same-length : tie.Need-same-length
+same-length c = search needs
+
+returns : tie.Need-returns
+returns c = put-as (c .before .before .put-rights-name .ensures) (omega arith) (ap (answerText _) (sym (ap saidRightsAnswer (c .before .before .before .before .before .rights .given .1)) ∙ c .before .before .before .before .before .before .before .rights-answer .ensures))
+
+same-length-2 : tie.Need-same-length-2
+same-length-2 c = search needs
+
+returns-2 : tie.Need-returns-2
+returns-2 c = put-as (c .before .before .put .ensures) (omega arith) (ap (answerText _) (sym (ap saidRightsAnswer (c .before .before .before .before .before .enum-told .given .1)) ∙ c .before .before .before .before .before .before .before .rights-answer .ensures))
+
+same-length-3 : tie.Need-same-length-3
+same-length-3 c = search needs
+
+returns-3 : tie.Need-returns-3
+returns-3 c = put-as (c .before .before .put2 .ensures) (omega arith) (ap (answerText _) (sym (ap saidRightsAnswer (c .before .before .before .before .before .enum-told2 .given .1)) ∙ c .before .before .before .before .before .before .before .rights-answer .ensures))
+
+pub put-rights-spec : {M : Type 1} → statement M
+put-rights-spec =
+    tie.close
+    (tie.spec
+    rights-answer-requires
+    enum-known-rights
+    put-rights-name-requires
+    enum-told
+    slice-aggregate-put
+    put-requires
+    enum-told-2
+    slice-aggregate-put-2
+    put-requires-2
+    same-length
+    returns
+    same-length-2
+    returns-2
+    same-length-3
+    returns-3)
