@@ -1,68 +1,33 @@
 // Lists the 'name' table of each file that its arguments name, or of standard input where there is none.
 // Document 01, end of "Examples to check against". It only reads, loops and writes: the lines are the libraries'.
-ghost use Prim.Native.Nat.{_+_, _≤_};
+ghost use Prim.Native.Nat.{_≤_};
 ghost use mathlib.Core.Path.{_≡_};
 ghost use lib.ListN.{length};
 ghost use Rattle.name.specs.Acceptance.{checkOf};
-use libc::STDERR_FILENO;
-use libc::STDIN_FILENO;
-use libc::STDOUT_FILENO;
+use listing_io::Input;
+use listing_io::room_behind;
+use listing_io::write;
 use listing_lines::append;
 use name::Verdict;
 
 fn main() {
+    list_argument(1);
     let count = os::arg_count();
-    if count < 2 {
-        list_input(STDIN_FILENO, b"standard input");
-        return;
-    }
-    let mut i = 1;
+    let mut i = 2;
     while i < count {
-        list_file(i);
+        list_argument(i);
         i += 1;
     }
 }
 
-// The listing of the file that argument i names, or why there is none.
-fn list_file(i: usize) {
-    let mut path = io::buffer();
-    let n = os::arg(i, &mut path);
-    if os::errno() != 0 {
-        os::fail(b"path");
-        return;
-    }
-    let fd = os::open_read(&path[..n]);
-    if fd < 0 {
-        os::fail(&path[..n]);
-        return;
-    }
-    list_input(fd, &path[..n]);
-    libc::close(fd);
-}
-
-// The listing of an input: up to 65,536 bytes are read, in as many pieces as they come, and then once more. That read
-// gives nothing where the input has ended, a byte where it is too long, and fails where it cannot be read.
-fn list_input(fd: i32, path: &[u8]) {
+// The listing of the file that argument i names, or of standard input where there is no such argument.
+fn list_argument(i: usize) {
     let mut table = io::large_buffer();
-    let n = io::read_full(fd, &mut table);
-    let mut more = [0u8; 1];
-    let rest = libc::read(fd, &mut more);
-    if rest < 0 {
-        os::fail(path);
-        return;
+    match listing_io::read_table(i, &mut table) {
+        Input::Table(n) => list_table(&table[..n]),
+        Input::TooLong => listing_io::write_line(listing_lines::too_long()),
+        Input::Unread => {}
     }
-    if rest == 0 {
-        list_table(&table[..n]);
-        return;
-    }
-    if n < 65536 {
-        io::write_all(STDERR_FILENO, path);
-        io::write_all(STDERR_FILENO, b": reading was interrupted\n");
-        return;
-    }
-    let mut out = io::buffer();
-    let end = append(&mut out, 0, listing_lines::too_long());
-    write(&out[..end]);
 }
 
 fn list_table(table: &[u8]) {
@@ -109,23 +74,4 @@ fn record_lines(table: &[u8], out: &mut [u8], start: usize) -> usize
         i += 1;
     }
     end
-}
-
-// Where the next line goes: behind what stands already, or at the start, once that is written out for want of room.
-fn room_behind(out: &[u8], end: usize) -> usize
-    requires { ⌜ (160 ≤ length (now out)) × (end ≤ length (now out)) ⌝ }
-    ensures { λ r. ⌜ r + 160 ≤ length (now (out .entry)) ⌝ }
-{
-    if out.len() - end < 160 {
-        write(&out[..end]);
-        return 0;
-    }
-    end
-}
-
-// Writes, or says why it cannot.
-fn write(bytes: &[u8]) {
-    if !io::write_all(STDOUT_FILENO, bytes) {
-        os::fail(b"standard output");
-    }
 }

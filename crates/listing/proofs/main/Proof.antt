@@ -1,33 +1,27 @@
 -- The arguments left become fewer.
 -- Assumes nothing.
-use Prim.Native.Nat.{_-_, _≤_}
+use Prim.Native.Nat.{_-_}
 use borrow.Author.Needs.{needs}
 use Rattle.listing.proofs.main.Statement.{statement}
 use Rattle.listing.proofs.main.Tie as tie
 
 abbrev Inv-loop : tie.InvT-loop
-Inv-loop count i₀ i = i ≤ count
+Inv-loop count i₀ i = Unit {0}
 
 abbrev μ-loop : tie.MeasureT-loop
 μ-loop count i₀ i = count - i
 
+list-argument-requires : tie.Need-list-argument-requires Inv-loop μ-loop
+list-argument-requires c κs = search needs
+
 arg-count-requires : tie.Need-arg-count-requires Inv-loop μ-loop
 arg-count-requires c κs = search needs
-
-slice-aggregate-list-input : tie.Need-slice-aggregate-list-input Inv-loop μ-loop
-slice-aggregate-list-input c = search needs
-
-list-input-requires : tie.Need-list-input-requires Inv-loop μ-loop
-list-input-requires c κs = search needs
-
-returns : tie.Need-returns Inv-loop μ-loop
-returns c = search needs
 
 loop-holds : tie.Need-loop-holds Inv-loop μ-loop
 loop-holds c = search needs
 
-list-file-requires : tie.Need-list-file-requires Inv-loop μ-loop
-list-file-requires c κs = search needs
+list-argument-requires-2 : tie.Need-list-argument-requires-2 Inv-loop μ-loop
+list-argument-requires-2 c κs = search needs
 
 add-i : tie.Need-add-i Inv-loop μ-loop
 add-i c = search needs
@@ -38,8 +32,8 @@ loop-less c = search needs
 loop-again : tie.Need-loop-again Inv-loop μ-loop
 loop-again c = search needs
 
-returns-2 : tie.Need-returns-2 Inv-loop μ-loop
-returns-2 c = search needs
+returns : tie.Need-returns Inv-loop μ-loop
+returns c = search needs
 
 pub main-spec : {M : Type 1} → statement M
 main-spec =
@@ -47,13 +41,11 @@ main-spec =
     (tie.spec
     Inv-loop
     μ-loop
+    list-argument-requires
     arg-count-requires
-    slice-aggregate-list-input
-    list-input-requires
-    returns
     loop-holds
-    list-file-requires
+    list-argument-requires-2
     add-i
     loop-less
     loop-again
-    returns-2)
+    returns)

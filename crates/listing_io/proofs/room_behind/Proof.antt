@@ -4,8 +4,8 @@ use mathlib.Core.Path.{sym}
 use native.Mathlib.Omega.{arith}
 use lib.Seq.{length-take-le}
 use borrow.Author.Needs.{needs}
-use Rattle.listing.proofs.room_behind.Statement.{statement}
-use Rattle.listing.proofs.room_behind.Tie as tie
+use Rattle.listing_io.proofs.room_behind.Statement.{statement}
+use Rattle.listing_io.proofs.room_behind.Tie as tie
 
 sub-if1 : tie.Need-sub-if1
 sub-if1 c = search needs
