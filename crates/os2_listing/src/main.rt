@@ -31,7 +31,8 @@ fn main() {
 
 // The listing at the level that one argument gives, of the file that another names.
 fn list_arguments(level: usize, file: usize) {
-    let mut word = io::large_buffer();
+    // An argument has at most 131,071 bytes on Linux.
+    let mut word = [0u8; 131072];
     let n = os::arg(level, &mut word);
     if os::errno() != 0 {
         os::fail(b"level");
