@@ -16,7 +16,7 @@ use Rattle.listing_lines.specs.Numerals.{digits, decimal}
 use Rattle.listing_lines.specs.Lines.{refused, refusedAt}
 use Rattle.os2_lines.specs.Figures.{signedText, fraction, figure, rightsText, percentHundredths, positionText, pointsText}
 use Rattle.os2_lines.specs.Listings.{questionOf, nameOf, lineAt, linesBelow, listingOf}
-use Rattle.os2_lines.specs.Examples.{Signs, Points, Percents, SamePercents, Listed}
+use Rattle.os2_lines.specs.Examples.{Signs, Points, fractionsRead, Fractions, Percents, SamePercents, Listed}
 
 pub signs : Signs
 unfolding signedText digits decimal
@@ -25,6 +25,10 @@ signs = refl
 pub points : Points
 unfolding pointsText figure fraction digits decimal
 points = refl
+
+pub fractions : Fractions
+unfolding fractionsRead fraction digits decimal
+fractions = refl
 
 pub percents : Percents
 unfolding percentHundredths figure fraction digits decimal

@@ -1,13 +1,17 @@
 -- Figures and listings worked out by hand: document 01's point figures and percentages, and what is listed of tables made from its first one.
-use Prim.Native.Nat.{ℕ}
+use Prim.Native.Nat.{ℕ, zero, suc, _-_}
 use mathlib.Core.Path.{_≡_}
-use mathlib.Core.List.{List, [], _∷_, map}
+use mathlib.Core.Bool.{Bool, true, not, _&&_}
+use mathlib.Core.List.{List, [], _∷_, _++_, map}
+use lib.Dec.{eqb}
+use lib.ListN.{length, getD, take}
 use lib.IntN.{pos, negsuc}
 use lib.Ieee.{binary32, div}
 use Rattle.characters.specs.Texts.{codes}
+use Rattle.listing_lines.specs.Numerals.{readsFrom}
 use Rattle.os2_style.specs.Style.{float, percentOf}
 use Rattle.os2.specs.Examples.{with, first}
-use Rattle.os2_lines.specs.Figures.{signedText, figure, percentHundredths, pointsText}
+use Rattle.os2_lines.specs.Figures.{signedText, fraction, figure, percentHundredths, pointsText}
 use Rattle.os2_lines.specs.Listings.{listingOf}
 
 abbrev pub Signs : Type 0
@@ -18,6 +22,22 @@ abbrev pub Points : Type 0
 Points =
     map pointsText (0 ∷ 1 ∷ 2 ∷ 10 ∷ 19 ∷ 240 ∷ 65534 ∷ [])
     ≡ codes "0" ∷ codes "0.05" ∷ codes "0.1" ∷ codes "0.5" ∷ codes "0.95" ∷ codes "12" ∷ codes "3276.7" ∷ []
+
+-- the hundredths that a fraction reads as, a missing second digit being 0
+abbrev pub hundredthsRead : List ℕ → ℕ
+hundredthsRead [] = 0
+hundredthsRead (period ∷ ds) = readsFrom 0 (take 2 (ds ++ codes "0"))
+
+-- each number of hundredths below n reads as itself, and its text has no zero at the end
+unfoldable pub fractionsRead : ℕ → Bool
+fractionsRead zero = true
+fractionsRead (suc h) =
+    eqb (hundredthsRead (fraction h)) h
+    && not (eqb (getD (fraction h) (length (fraction h) - 1) 0) 48)
+    && fractionsRead h
+
+abbrev pub Fractions : Type 0
+Fractions = fractionsRead 100 ≡ true
 
 abbrev pub widths : List ℕ
 widths = 1 ∷ 2 ∷ 3 ∷ 4 ∷ 5 ∷ 6 ∷ 7 ∷ 8 ∷ 9 ∷ []
