@@ -1,5 +1,5 @@
 -- The listing of an 'OS/2' table at a level, as the bytes of its lines. What a line says is the answer of `given`, which document 01 settles; how it
--- says it is docs/DECISIONS.md's.
+-- reads stands in docs/DECISIONS.md.
 use Prim.Native.Nat.{ℕ, zero, suc}
 use mathlib.Core.Bool.{cond}
 use mathlib.Core.Option.{Option, none, some}
