@@ -26,10 +26,10 @@ use os2::Question;
 use os2::Refusal;
 use os2::RightsAnswer;
 use os2::StyleAnswer;
-use os2_fields::LOWER_SIZE;
-use os2_fields::UPPER_SIZE;
-use os2_fields::WEIGHT;
-use os2_fields::WIDTH;
+use os2_fields::LOWER_SIZE_ENTRY;
+use os2_fields::UPPER_SIZE_ENTRY;
+use os2_fields::WEIGHT_ENTRY;
+use os2_fields::WIDTH_ENTRY;
 use os2_style::EmbeddingRights;
 use os2_style::OpticalSizes;
 
@@ -122,8 +122,8 @@ fn put_style(out: &mut [u8], at: usize, table: &[u8], level: u32) -> usize
 {
     match os2::style_answer(table, level) {
         StyleAnswer::Value(_) => {
-            let weight = os2_fields::word(table, WEIGHT);
-            let width = os2_fields::word(table, WIDTH);
+            let weight = os2_fields::word(table, WEIGHT_ENTRY);
+            let width = os2_fields::word(table, WIDTH_ENTRY);
             put_position(out, at, weight, width)
         }
         StyleAnswer::Absent => put(out, at, b"absent"),
@@ -138,8 +138,8 @@ fn put_sizes(out: &mut [u8], at: usize, table: &[u8], level: u32) -> usize
 {
     match os2::optical_answer(table, level) {
         OpticalAnswer::Value(sizes) => {
-            let lower = os2_fields::word(table, LOWER_SIZE);
-            let upper = os2_fields::word(table, UPPER_SIZE);
+            let lower = os2_fields::word(table, LOWER_SIZE_ENTRY);
+            let upper = os2_fields::word(table, UPPER_SIZE_ENTRY);
             put_range(out, at, sizes, lower, upper)
         }
         OpticalAnswer::Absent => put(out, at, b"absent"),

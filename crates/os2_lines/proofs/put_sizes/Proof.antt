@@ -59,6 +59,7 @@ same-length : tie.Need-same-length
 same-length c = search needs
 
 returns : tie.Need-returns
+unfolding fieldOf catalogue
 returns c = put-as (c .before .before .put-range .ensures) (omega arith) (rw (c .before .before .before .before .before .word .ensures, c .before .before .before .before .word2 .ensures) (ap (answerText _) (sym (ap saidOpticalAnswer (c .before .before .before .before .before .before .before .sizes .given .1)) ∙ c .before .before .before .before .before .before .before .before .before .optical-answer .ensures)))
 
 same-length-2 : tie.Need-same-length-2

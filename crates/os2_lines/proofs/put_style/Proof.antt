@@ -30,7 +30,7 @@ unfolding fieldOf catalogue
 word-requires-2 c κs = open-word _ _ (c .before .before .before .before .before .before .pre .1) 3 (omega arith) refl zero-le zero-le
 
 put-position-requires : tie.Need-put-position-requires
-unfolding valuesOf onWhole
+unfolding valuesOf onWhole fieldOf catalogue
 put-position-requires c κs = (omega arith, rw (c .before .word2 .ensures) (open-rules _ _ (c .before .before .before .before .before .before .before .before .pre .1) (value-whole _ _ StylePosition refl (sym (c .before .before .before .before .before .style-answer .ensures) ∙ ap saidStyleAnswer (c .before .before .before .enum-told .given .1))) .rule-2))
 
 enum-told-2 : tie.Need-enum-told-2
@@ -55,6 +55,7 @@ same-length : tie.Need-same-length
 same-length c = search needs
 
 returns : tie.Need-returns
+unfolding fieldOf catalogue
 returns c = put-as (c .before .before .put-position .ensures) (omega arith) (rw (c .before .before .before .before .before .word .ensures, c .before .before .before .before .word2 .ensures) (ap (answerText _) (sym (ap saidStyleAnswer (c .before .before .before .before .before .before .enum-told .given .1)) ∙ c .before .before .before .before .before .before .before .before .style-answer .ensures)))
 
 same-length-2 : tie.Need-same-length-2
