@@ -59,11 +59,11 @@ returns-4 c = λ e.
     let newer = tested .before .before in
     let kept = kept-true _ (sym (c .keeps .ensures ∙ ap (λ v. isKept (verdictOf v)) (c .before .values .ensures)) ∙ e) in
     judged-exactly _ _ .1 (
-      record {
-        two = newer .before .before .before .if1 .left;
-        sized = rw (min-eq-left (known newer)) (sized tested);
-        ruled = λ h. kept-exactly _ .0 kept;
-      }
+    record {
+      two = newer .before .before .before .if1 .left;
+      sized = rw (min-eq-left (known newer)) (sized tested);
+      ruled = λ h. kept-exactly _ .0 kept;
+    }
     )
 
 pub surely-accepts-spec : {M : Type 1} → statement M
