@@ -1,0 +1,47 @@
+//! What all three implementations answer.
+
+/// Document 01's number of a refusal, and what it carries, 0 for nothing.
+#[derive(Clone, Copy, Debug, PartialEq)]
+pub struct Refusal {
+    pub number: u32,
+    pub carried: u32,
+}
+
+pub type Result<T> = std::result::Result<T, Refusal>;
+
+/// The answer's three cases.
+#[derive(Clone, Copy, Debug, PartialEq)]
+pub enum Answer<T> {
+    Value(T),
+    Absent,
+    NotKnown,
+}
+
+/// A string's start, from the table's first byte, and its length.
+#[derive(Clone, Copy, Debug, PartialEq)]
+pub struct Text {
+    pub start: usize,
+    pub length: usize,
+}
+
+/// Optical sizes, in points.
+#[derive(Clone, Copy, Debug, PartialEq)]
+pub enum Optical {
+    Every,
+    Upwards(f32),
+    Between(f32, f32),
+}
+
+/// The size written.
+pub type Written = Result<usize>;
+
+pub fn refuse<T>(number: u32) -> Result<T> {
+    Err(Refusal { number, carried: 0 })
+}
+
+pub fn refuse_at<T>(number: u32, carried: usize) -> Result<T> {
+    Err(Refusal {
+        number,
+        carried: carried as u32,
+    })
+}

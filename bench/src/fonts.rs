@@ -1,0 +1,78 @@
+//! The tables that are timed: those of the fonts under some folders, and 'name' tables of a given number of records.
+
+use std::path::{Path, PathBuf};
+
+/// The 'name' and 'OS/2' tables of the fonts found.
+pub struct Tables {
+    pub names: Vec<Vec<u8>>,
+    pub os2s: Vec<Vec<u8>>,
+    pub fonts: usize,
+}
+
+fn collect(folder: &Path, files: &mut Vec<PathBuf>) {
+    let Ok(entries) = std::fs::read_dir(folder) else {
+        return;
+    };
+    for entry in entries.flatten() {
+        let path = entry.path();
+        if path.is_dir() {
+            collect(&path, files);
+        } else if path.extension().is_some_and(|e| e == "ttf" || e == "otf") {
+            files.push(path);
+        }
+    }
+}
+
+fn u32_at(b: &[u8], at: usize) -> Option<usize> {
+    Some(u32::from_be_bytes(b.get(at..at + 4)?.try_into().ok()?) as usize)
+}
+
+/// A table of a font file, by its tag in the table directory.
+fn table(font: &[u8], tag: &[u8; 4]) -> Option<Vec<u8>> {
+    let count = u16::from_be_bytes([*font.get(4)?, *font.get(5)?]) as usize;
+    for i in 0..count {
+        let at = 12 + 16 * i;
+        if font.get(at..at + 4)? == tag {
+            let start = u32_at(font, at + 8)?;
+            return Some(font.get(start..start + u32_at(font, at + 12)?)?.to_vec());
+        }
+    }
+    None
+}
+
+pub fn tables(folders: &[PathBuf]) -> Tables {
+    let mut files = Vec::new();
+    for folder in folders {
+        collect(folder, &mut files);
+    }
+    files.sort();
+    let mut found = Tables {
+        names: Vec::new(),
+        os2s: Vec::new(),
+        fonts: 0,
+    };
+    for file in &files {
+        if let Ok(font) = std::fs::read(file) {
+            found.fonts += 1;
+            found.names.extend(table(&font, b"name"));
+            found.os2s.extend(table(&font, b"OS/2"));
+        }
+    }
+    found
+}
+
+/// An accepted 'name' table of format 0 with so many records, with a string of one byte that all share.
+pub fn many_records(count: u16) -> Vec<u8> {
+    let end = 6 + 12 * count;
+    let mut t = Vec::new();
+    for number in [0, count, end] {
+        t.extend(number.to_be_bytes());
+    }
+    for i in 0..count {
+        for part in [3, 1, 0x409 + i / 256, i % 256, 1, 0] {
+            t.extend(u16::to_be_bytes(part));
+        }
+    }
+    t.push(b'x');
+    t
+}

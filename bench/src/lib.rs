@@ -1,0 +1,502 @@
+//! Times the proved library against safe Rust that does the same work, and prints a table of the ratios.
+
+mod answers;
+mod fonts;
+mod library;
+mod plain;
+mod tuned;
+
+use answers::Answer;
+use library::raw;
+use std::fmt::Debug;
+use std::hint::black_box;
+use std::path::PathBuf;
+use std::process::ExitCode;
+use std::time::{Duration, Instant};
+
+/// Rounds, of which the best counts, and the least time of a round.
+const ROUNDS: usize = 15;
+const ROUND: Duration = Duration::from_millis(8);
+
+/// The keys that a box looks up: family, subfamily, full name, PostScript name, and one that is seldom there.
+const KEYS: [[u16; 4]; 5] = [
+    [3, 1, 0x409, 1],
+    [3, 1, 0x409, 2],
+    [3, 1, 0x409, 4],
+    [1, 0, 0, 6],
+    [3, 1, 0x40c, 1],
+];
+
+/// One piece of work, done by one implementation.
+struct Runner<'a> {
+    work: Box<dyn FnMut() + 'a>,
+    turns: u32,
+    best: f64,
+}
+
+impl<'a> Runner<'a> {
+    fn new(mut work: Box<dyn FnMut() + 'a>) -> Runner<'a> {
+        let mut turns = 1;
+        loop {
+            let start = Instant::now();
+            for _ in 0..turns {
+                work();
+            }
+            if start.elapsed() >= ROUND {
+                return Runner {
+                    work,
+                    turns,
+                    best: f64::INFINITY,
+                };
+            }
+            turns *= 2;
+        }
+    }
+
+    fn round(&mut self) {
+        let start = Instant::now();
+        for _ in 0..self.turns {
+            (self.work)();
+        }
+        let each = start.elapsed().as_nanos() as f64 / self.turns as f64;
+        self.best = self.best.min(each);
+    }
+}
+
+/// The best time of each implementation, in nanoseconds a turn, their rounds taken in turn.
+fn best<const N: usize>(works: [Box<dyn FnMut() + '_>; N]) -> [f64; N] {
+    let mut runners = works.map(Runner::new);
+    for _ in 0..ROUNDS {
+        for runner in &mut runners {
+            runner.round();
+        }
+    }
+    runners.map(|runner| runner.best)
+}
+
+/// Work over each input in turn, the result kept from being optimised away.
+fn over<'a, T: ?Sized, R>(
+    inputs: &'a [impl AsRef<T>],
+    f: impl Fn(&T) -> R + 'a,
+) -> Box<dyn FnMut() + 'a> {
+    Box::new(move || {
+        for input in inputs {
+            black_box(f(black_box(input.as_ref())));
+        }
+    })
+}
+
+/// The library's time as a multiple of plain and of tuned safe Rust's.
+struct Ratios {
+    plain: f64,
+    tuned: f64,
+}
+
+/// Prints a line of the table: nanoseconds a call of the library, of plain and of tuned safe Rust.
+fn line(what: &str, calls: usize, [ours, plain, tuned]: [f64; 3]) -> Ratios {
+    let calls = calls as f64;
+    let ratios = Ratios {
+        plain: ours / plain,
+        tuned: ours / tuned,
+    };
+    println!(
+        "| {what} | {:.1} | {:.1} | {:.1} | {:.2} | {:.2} |",
+        ours / calls,
+        plain / calls,
+        tuned / calls,
+        ratios.plain,
+        ratios.tuned
+    );
+    ratios
+}
+
+/// Prints a line where only plain safe Rust stands against the library.
+fn line_plain(what: &str, calls: usize, [ours, plain]: [f64; 2]) {
+    let calls = calls as f64;
+    println!(
+        "| {what} | {:.1} | {:.1} | | {:.2} | |",
+        ours / calls,
+        plain / calls,
+        ours / plain
+    );
+}
+
+/// A ratio that must not be passed.
+#[derive(Clone)]
+struct Bar {
+    what: &'static str,
+    most: f64,
+    is: f64,
+}
+
+fn bar(what: &'static str, most: f64, is: f64) -> Bar {
+    Bar { what, most, is }
+}
+
+fn same<R: PartialEq + Debug>(what: &str, results: [R; 3]) {
+    assert!(
+        results[0] == results[1] && results[1] == results[2],
+        "{what} differs: {results:?}"
+    );
+}
+
+/// That the three give the same answers on what is timed.
+fn agree(names: &[Vec<u8>], os2s: &[Vec<u8>]) {
+    for t in names {
+        same(
+            "check",
+            [library::check(t), plain::check(t), tuned::check(t)],
+        );
+        same(
+            "PostScript",
+            [
+                library::postscript(t),
+                plain::postscript(t),
+                tuned::postscript(t),
+            ],
+        );
+        same(
+            "version",
+            [library::version(t), plain::version(t), tuned::version(t)],
+        );
+        for key in KEYS {
+            same(
+                "lookup",
+                [
+                    library::lookup(t, key),
+                    plain::lookup(t, key),
+                    tuned::lookup(t, key),
+                ],
+            );
+        }
+    }
+    for t in os2s {
+        for level in 0..=5 {
+            for k in 0..=48 {
+                same(
+                    "field",
+                    [
+                        library::field(t, level, k),
+                        plain::field(t, level, k),
+                        tuned::field(t, level, k),
+                    ],
+                );
+            }
+            let questions: [fn(&[u8], u32) -> String; 2] = [
+                |t, level| format!("{:?}", seven_library(t, level)),
+                |t, level| format!("{:?}", seven_plain(t, level)),
+            ];
+            assert_eq!(
+                questions[0](t, level),
+                questions[1](t, level),
+                "a question differs"
+            );
+            assert_eq!(
+                library::check_os2(t, level),
+                plain::check_os2(t, level),
+                "the OS/2 check differs"
+            );
+        }
+        let numbers = numbers_of(t);
+        let mut rooms = [[7u8; 128]; 3];
+        let [first, second, third] = &mut rooms;
+        same(
+            "write",
+            [
+                library::write(&numbers, first),
+                plain::write(&numbers, second),
+                tuned::write(&numbers, third),
+            ],
+        );
+        same("the room", rooms);
+    }
+}
+
+type Seven = (
+    answers::Result<Answer<i64>>,
+    [answers::Result<Answer<i64>>; 3],
+    answers::Result<Answer<u32>>,
+    answers::Result<Answer<(f32, f32)>>,
+    answers::Result<Answer<answers::Optical>>,
+);
+
+fn seven_library(t: &[u8], level: u32) -> Seven {
+    (
+        library::field(t, level, 2),
+        [
+            library::selection_bit(t, level, 7),
+            library::unicode_bit(t, level, 57),
+            library::code_page_bit(t, level, 33),
+        ],
+        library::rights(t, level),
+        library::style_position(t, level),
+        library::optical_sizes(t, level),
+    )
+}
+
+/// The seven questions in the library's own words.
+fn seven_raw(t: &[u8], level: u32) -> impl Sized + use<> {
+    (
+        raw::field(t, level, 2),
+        [
+            raw::selection_bit(t, level, 7),
+            raw::unicode_bit(t, level, 57),
+            raw::code_page_bit(t, level, 33),
+        ],
+        raw::rights(t, level),
+        raw::style_position(t, level),
+        raw::optical_sizes(t, level),
+    )
+}
+
+fn seven_plain(t: &[u8], level: u32) -> Seven {
+    (
+        plain::field(t, level, 2),
+        [
+            plain::selection_bit(t, level, 7),
+            plain::unicode_bit(t, level, 57),
+            plain::code_page_bit(t, level, 33),
+        ],
+        plain::rights(t, level),
+        plain::style_position(t, level),
+        plain::optical_sizes(t, level),
+    )
+}
+
+/// The 48 numbers of a table, 0 for what its version lacks.
+fn numbers_of(t: &[u8]) -> [i64; 48] {
+    std::array::from_fn(|k| match plain::field(t, 5, k as u32) {
+        Ok(Answer::Value(x)) => x,
+        _ => 0,
+    })
+}
+
+/// Each of the 48 fields asked for, one after the other.
+fn fields<R>(ask: impl Fn(u32) -> R) {
+    for k in 0..48 {
+        black_box(ask(black_box(k)));
+    }
+}
+
+fn time_names(names: &[Vec<u8>]) -> Vec<Bar> {
+    let calls = names.len();
+    line(
+        "check, a font",
+        calls,
+        best([
+            over(names, |t: &[u8]| raw::check(t)),
+            over(names, |t: &[u8]| plain::check(t)),
+            over(names, |t: &[u8]| tuned::check(t)),
+        ]),
+    );
+    let lookup = line(
+        "check and lookup, a font",
+        calls * KEYS.len(),
+        best([
+            over(names, |t: &[u8]| {
+                KEYS.map(|key| raw::lookup(t, black_box(key)))
+            }),
+            over(names, |t: &[u8]| {
+                KEYS.map(|key| plain::lookup(t, black_box(key)))
+            }),
+            over(names, |t: &[u8]| {
+                KEYS.map(|key| tuned::lookup(t, black_box(key)))
+            }),
+        ]),
+    );
+    line(
+        "PostScript name, a font",
+        calls,
+        best([
+            over(names, |t: &[u8]| raw::postscript(t)),
+            over(names, |t: &[u8]| plain::postscript(t)),
+            over(names, |t: &[u8]| tuned::postscript(t)),
+        ]),
+    );
+    line(
+        "version number, a font",
+        calls,
+        best([
+            over(names, |t: &[u8]| raw::version(t)),
+            over(names, |t: &[u8]| plain::version(t)),
+            over(names, |t: &[u8]| tuned::version(t)),
+        ]),
+    );
+    vec![bar("check and lookup, a font, to plain", 0.6, lookup.plain)]
+}
+
+fn time_os2s(os2s: &[Vec<u8>]) -> Vec<Bar> {
+    let calls = os2s.len();
+    let field = line(
+        "one field of the 48",
+        calls * 48,
+        best([
+            over(os2s, |t: &[u8]| fields(|k| raw::field(t, black_box(5), k))),
+            over(os2s, |t: &[u8]| {
+                fields(|k| plain::field(t, black_box(5), k))
+            }),
+            over(os2s, |t: &[u8]| {
+                fields(|k| tuned::field(t, black_box(5), k))
+            }),
+        ]),
+    );
+    line_plain(
+        "all seven questions",
+        calls,
+        best([
+            over(os2s, |t: &[u8]| seven_raw(t, black_box(5))),
+            over(os2s, |t: &[u8]| seven_plain(t, black_box(5))),
+        ]),
+    );
+    let numbers: Vec<Numbers> = os2s.iter().map(|t| Numbers(numbers_of(t))).collect();
+    let writer = line(
+        "the writer, a table",
+        calls,
+        best([
+            over(&numbers, |x: &[i64; 48]| {
+                raw::write(x, black_box(&mut [0; 128]))
+            }),
+            over(&numbers, |x: &[i64; 48]| {
+                plain::write(x, black_box(&mut [0; 128]))
+            }),
+            over(&numbers, |x: &[i64; 48]| {
+                tuned::write(x, black_box(&mut [0; 128]))
+            }),
+        ]),
+    );
+    vec![
+        bar("one field, to plain", 1.1, field.plain),
+        bar("the writer, to plain", 2.0, writer.plain),
+    ]
+}
+
+struct Numbers([i64; 48]);
+
+impl AsRef<[i64; 48]> for Numbers {
+    fn as_ref(&self) -> &[i64; 48] {
+        &self.0
+    }
+}
+
+fn time_many() -> Vec<Bar> {
+    let [few, many] = [50, 5460].map(fonts::many_records).map(|t| [t]);
+    for t in few.iter().chain(&many) {
+        same(
+            "check",
+            [library::check(t), plain::check(t), tuned::check(t)],
+        );
+        assert_eq!(
+            library::check(t),
+            Ok(()),
+            "a table made for the benchmark is refused"
+        );
+    }
+    let [(_, few), (check, each)] = [(&few, 50), (&many, 5460)].map(|(t, count)| {
+        let times = best([
+            over(t, |t: &[u8]| raw::check(t)),
+            over(t, |t: &[u8]| plain::check(t)),
+            over(t, |t: &[u8]| tuned::check(t)),
+        ]);
+        (
+            line(&format!("check, a record of {count}"), count, times),
+            times[0] / count as f64,
+        )
+    });
+    let key = [3, 1, 0x409, 5];
+    line(
+        "check and lookup, a record of 5460",
+        5460,
+        best([
+            over(&many, move |t: &[u8]| raw::lookup(t, black_box(key))),
+            over(&many, move |t: &[u8]| plain::lookup(t, black_box(key))),
+            over(&many, move |t: &[u8]| tuned::lookup(t, black_box(key))),
+        ]),
+    );
+    vec![
+        bar("check of 5460 records, to tuned", 1.1, check.tuned),
+        bar("check of 5460 records, to plain", 0.4, check.plain),
+        bar("a record of 5460, to a record of 50", 1.5, each / few),
+    ]
+}
+
+/// Another reader of fonts. It does other work: it checks less and says less.
+pub struct Other {
+    /// Its name.
+    pub name: &'static str,
+    /// The length of the string that a key finds in a 'name' table.
+    pub lookup: fn(&[u8], [u16; 4]) -> Option<usize>,
+    /// The weight in an 'OS/2' table.
+    pub weight: fn(&[u8]) -> Option<u16>,
+}
+
+fn time_other(other: &Other, names: &[Vec<u8>], os2s: &[Vec<u8>]) {
+    let calls = names.len() * KEYS.len();
+    let [ours, theirs] = best([
+        over(names, |t: &[u8]| {
+            KEYS.map(|key| raw::lookup(t, black_box(key)))
+        }),
+        over(names, |t: &[u8]| {
+            KEYS.map(|key| (other.lookup)(t, black_box(key)))
+        }),
+    ]);
+    let [field, weight] = best([
+        over(os2s, |t: &[u8]| raw::field(t, black_box(5), black_box(2))),
+        over(os2s, |t: &[u8]| (other.weight)(t)),
+    ]);
+    println!();
+    println!(
+        "| beside {} | library | {} | ratio |",
+        other.name, other.name
+    );
+    println!("|---|---|---|---|");
+    for (what, calls, ours, theirs) in [
+        ("a lookup, a font", calls, ours, theirs),
+        ("the weight, a font", os2s.len(), field, weight),
+    ] {
+        let calls = calls as f64;
+        println!(
+            "| {what} | {:.1} | {:.1} | {:.2} |",
+            ours / calls,
+            theirs / calls,
+            ours / theirs
+        );
+    }
+}
+
+/// Times everything on the fonts under the folders named on the command line, the machine's own where none is.
+pub fn run(other: Option<Other>) -> ExitCode {
+    let mut folders: Vec<PathBuf> = std::env::args_os().skip(1).map(PathBuf::from).collect();
+    if folders.is_empty() {
+        folders.push(PathBuf::from("/usr/share/fonts"));
+    }
+    let found = fonts::tables(&folders);
+    if found.names.is_empty() || found.os2s.is_empty() {
+        eprintln!("bench: no fonts under {folders:?}; Debian's fonts-dejavu-core has some");
+        return ExitCode::FAILURE;
+    }
+    agree(&found.names, &found.os2s);
+    println!(
+        "{} fonts; nanoseconds, the best of {ROUNDS} rounds.",
+        found.fonts
+    );
+    println!();
+    println!("| work | library | plain | tuned | library/plain | library/tuned |");
+    println!("|---|---|---|---|---|---|");
+    let bars = [
+        time_names(&found.names),
+        time_os2s(&found.os2s),
+        time_many(),
+    ]
+    .concat();
+    println!();
+    println!("| bar | at most | is | |");
+    println!("|---|---|---|---|");
+    for Bar { what, most, is } in bars {
+        let met = if is <= most { "met" } else { "missed" };
+        println!("| {what} | {most:.2} | {is:.2} | {met} |");
+    }
+    if let Some(other) = other {
+        time_other(&other, &found.names, &found.os2s);
+    }
+    ExitCode::SUCCESS
+}

@@ -1,0 +1,262 @@
+//! The proved library, as `include/gyalvindor.h` declares it.
+
+use crate::answers::{Answer, Optical, Refusal, Result, Text, Written};
+
+#[repr(C)]
+#[derive(Clone, Copy)]
+pub struct GvRefusal {
+    number: u32,
+    carries: u32,
+    carried: usize,
+}
+
+#[repr(C)]
+pub struct GvText {
+    refusal: GvRefusal,
+    start: usize,
+    length: usize,
+}
+
+#[repr(C)]
+pub struct GvVersion {
+    refusal: GvRefusal,
+    major: u32,
+    minor: u32,
+}
+
+#[repr(C)]
+pub struct GvNumber {
+    refusal: GvRefusal,
+    kind: u32,
+    value: i64,
+}
+
+#[repr(C)]
+pub struct GvRights {
+    refusal: GvRefusal,
+    kind: u32,
+    rights: u32,
+}
+
+#[repr(C)]
+pub struct GvStyle {
+    refusal: GvRefusal,
+    kind: u32,
+    weight: f32,
+    width: f32,
+}
+
+#[repr(C)]
+pub struct GvOptical {
+    refusal: GvRefusal,
+    kind: u32,
+    sizes: u32,
+    lower: f32,
+    upper: f32,
+}
+
+#[repr(C)]
+pub struct GvWritten {
+    refusal: GvRefusal,
+    size: usize,
+}
+
+unsafe extern "C" {
+    fn gv_name_check(table: *const u8, length: usize) -> GvRefusal;
+    fn gv_name_lookup(
+        table: *const u8,
+        length: usize,
+        platform: u32,
+        encoding: u32,
+        language: u32,
+        name: u32,
+    ) -> GvText;
+    fn gv_name_postscript(table: *const u8, length: usize) -> GvText;
+    fn gv_name_version(table: *const u8, length: usize) -> GvVersion;
+    fn gv_os2_check(table: *const u8, length: usize, level: u32) -> GvRefusal;
+    fn gv_os2_field(table: *const u8, length: usize, level: u32, number: u32) -> GvNumber;
+    fn gv_os2_selection_bit(table: *const u8, length: usize, level: u32, number: u32) -> GvNumber;
+    fn gv_os2_unicode_bit(table: *const u8, length: usize, level: u32, number: u32) -> GvNumber;
+    fn gv_os2_code_page_bit(table: *const u8, length: usize, level: u32, number: u32) -> GvNumber;
+    fn gv_os2_rights(table: *const u8, length: usize, level: u32) -> GvRights;
+    fn gv_os2_style_position(table: *const u8, length: usize, level: u32) -> GvStyle;
+    fn gv_os2_optical_sizes(table: *const u8, length: usize, level: u32) -> GvOptical;
+    fn gv_os2_write(numbers: *const i64, room: *mut u8, length: usize) -> GvWritten;
+}
+
+/// The library's functions on slices, answering in its own words.
+pub mod raw {
+    use super::*;
+
+    // In each: a slice's pointer and length are valid for reads, a mutable one's for writes, until the call ends, and the library keeps neither.
+
+    #[inline]
+    pub fn check(t: &[u8]) -> GvRefusal {
+        unsafe { gv_name_check(t.as_ptr(), t.len()) }
+    }
+
+    #[inline]
+    pub fn lookup(t: &[u8], key: [u16; 4]) -> GvText {
+        let [p, e, l, n] = key.map(u32::from);
+        unsafe { gv_name_lookup(t.as_ptr(), t.len(), p, e, l, n) }
+    }
+
+    #[inline]
+    pub fn postscript(t: &[u8]) -> GvText {
+        unsafe { gv_name_postscript(t.as_ptr(), t.len()) }
+    }
+
+    #[inline]
+    pub fn version(t: &[u8]) -> GvVersion {
+        unsafe { gv_name_version(t.as_ptr(), t.len()) }
+    }
+
+    #[inline]
+    pub fn check_os2(t: &[u8], level: u32) -> GvRefusal {
+        unsafe { gv_os2_check(t.as_ptr(), t.len(), level) }
+    }
+
+    #[inline]
+    pub fn field(t: &[u8], level: u32, number: u32) -> GvNumber {
+        unsafe { gv_os2_field(t.as_ptr(), t.len(), level, number) }
+    }
+
+    #[inline]
+    pub fn selection_bit(t: &[u8], level: u32, number: u32) -> GvNumber {
+        unsafe { gv_os2_selection_bit(t.as_ptr(), t.len(), level, number) }
+    }
+
+    #[inline]
+    pub fn unicode_bit(t: &[u8], level: u32, number: u32) -> GvNumber {
+        unsafe { gv_os2_unicode_bit(t.as_ptr(), t.len(), level, number) }
+    }
+
+    #[inline]
+    pub fn code_page_bit(t: &[u8], level: u32, number: u32) -> GvNumber {
+        unsafe { gv_os2_code_page_bit(t.as_ptr(), t.len(), level, number) }
+    }
+
+    #[inline]
+    pub fn rights(t: &[u8], level: u32) -> GvRights {
+        unsafe { gv_os2_rights(t.as_ptr(), t.len(), level) }
+    }
+
+    #[inline]
+    pub fn style_position(t: &[u8], level: u32) -> GvStyle {
+        unsafe { gv_os2_style_position(t.as_ptr(), t.len(), level) }
+    }
+
+    #[inline]
+    pub fn optical_sizes(t: &[u8], level: u32) -> GvOptical {
+        unsafe { gv_os2_optical_sizes(t.as_ptr(), t.len(), level) }
+    }
+
+    #[inline]
+    pub fn write(numbers: &[i64; 48], room: &mut [u8]) -> GvWritten {
+        unsafe { gv_os2_write(numbers.as_ptr(), room.as_mut_ptr(), room.len()) }
+    }
+}
+
+fn none_or<T>(refusal: GvRefusal, value: T) -> Result<T> {
+    if refusal.number == 0 {
+        Ok(value)
+    } else {
+        Err(Refusal {
+            number: refusal.number,
+            carried: refusal.carried as u32,
+        })
+    }
+}
+
+fn answer<T>(refusal: GvRefusal, kind: u32, value: T) -> Result<Answer<T>> {
+    none_or(
+        refusal,
+        match kind {
+            1 => Answer::Value(value),
+            2 => Answer::Absent,
+            _ => Answer::NotKnown,
+        },
+    )
+}
+
+// ---- the same answers in the words of `answers`, for the comparison before the timing
+
+pub fn check(t: &[u8]) -> Result<()> {
+    none_or(raw::check(t), ())
+}
+
+pub fn lookup(t: &[u8], key: [u16; 4]) -> Result<Text> {
+    let r = raw::lookup(t, key);
+    none_or(
+        r.refusal,
+        Text {
+            start: r.start,
+            length: r.length,
+        },
+    )
+}
+
+pub fn postscript(t: &[u8]) -> Result<Text> {
+    let r = raw::postscript(t);
+    none_or(
+        r.refusal,
+        Text {
+            start: r.start,
+            length: r.length,
+        },
+    )
+}
+
+pub fn version(t: &[u8]) -> Result<(u16, u16)> {
+    let r = raw::version(t);
+    none_or(r.refusal, (r.major as u16, r.minor as u16))
+}
+
+pub fn check_os2(t: &[u8], level: u32) -> Result<()> {
+    none_or(raw::check_os2(t, level), ())
+}
+
+pub fn field(t: &[u8], level: u32, number: u32) -> Result<Answer<i64>> {
+    let r = raw::field(t, level, number);
+    answer(r.refusal, r.kind, r.value)
+}
+
+pub fn selection_bit(t: &[u8], level: u32, number: u32) -> Result<Answer<i64>> {
+    let r = raw::selection_bit(t, level, number);
+    answer(r.refusal, r.kind, r.value)
+}
+
+pub fn unicode_bit(t: &[u8], level: u32, number: u32) -> Result<Answer<i64>> {
+    let r = raw::unicode_bit(t, level, number);
+    answer(r.refusal, r.kind, r.value)
+}
+
+pub fn code_page_bit(t: &[u8], level: u32, number: u32) -> Result<Answer<i64>> {
+    let r = raw::code_page_bit(t, level, number);
+    answer(r.refusal, r.kind, r.value)
+}
+
+pub fn rights(t: &[u8], level: u32) -> Result<Answer<u32>> {
+    let r = raw::rights(t, level);
+    answer(r.refusal, r.kind, r.rights)
+}
+
+pub fn style_position(t: &[u8], level: u32) -> Result<Answer<(f32, f32)>> {
+    let r = raw::style_position(t, level);
+    answer(r.refusal, r.kind, (r.weight, r.width))
+}
+
+pub fn optical_sizes(t: &[u8], level: u32) -> Result<Answer<Optical>> {
+    let r = raw::optical_sizes(t, level);
+    let sizes = match r.sizes {
+        2 => Optical::Upwards(r.lower),
+        3 => Optical::Between(r.lower, r.upper),
+        _ => Optical::Every,
+    };
+    answer(r.refusal, r.kind, sizes)
+}
+
+pub fn write(numbers: &[i64; 48], room: &mut [u8]) -> Written {
+    let r = raw::write(numbers, room);
+    none_or(r.refusal, r.size)
+}
