@@ -10,7 +10,7 @@ ghost use lib.IntN.{pos};
 ghost use Rattle.level.specs.Levels.{numberOf};
 ghost use Rattle.level.specs.Sizes.{tableSize};
 ghost use Rattle.os2_rules.specs.Bits.{bit};
-ghost use Rattle.os2_fields.specs.Fields.{raw, version};
+ghost use Rattle.os2_fields.specs.Fields.{rawIn, version};
 ghost use mathlib.Core.Option.{none};
 ghost use lib.Dec.{ltb};
 ghost use Rattle.os2.specs.Outcomes.{accepted, integer, unless};
@@ -21,11 +21,10 @@ ghost use Rattle.os2.specs.Reading.{BitAsked};
 ghost use Rattle.os2.specs.Replies.{refusalNumber, refusalCarries, saidCarried, saidCheck, saidAnswer, saidReply, saidRightsAnswer, saidRightsReply, saidStyleAnswer, saidStyleReply, saidOpticalAnswer, saidOpticalReply, saidAnyReply, kindOf};
 use level::Level;
 use level::LevelAnswer;
-use os2_fields::CODE_PAGES;
-use os2_fields::FSSELECTION;
+use os2_fields::FSSELECTION_ENTRY;
 use os2_fields::FSTYPE_ENTRY;
+use os2_fields::Field;
 use os2_fields::LOWER_SIZE_ENTRY;
-use os2_fields::UNICODE_RANGES;
 use os2_fields::UPPER_SIZE_ENTRY;
 use os2_fields::WEIGHT_ENTRY;
 use os2_fields::WIDTH_ENTRY;
@@ -183,9 +182,10 @@ pub fn check(table: &[u8], level: u32) -> Checked
         LevelAnswer::Refused => Checked::Refused(Refusal::LevelAbove),
         LevelAnswer::Known(known) => {
             if surely_accepts(table, known) {
-                return Checked::Accepted;
+                Checked::Accepted
+            } else {
+                judge(table, known)
             }
-            judge(table, known)
         }
     }
 }
@@ -225,7 +225,7 @@ pub fn selection_bit(table: &[u8], level: u32, number: u32) -> Reply
             table,
             level,
             selection_since(number),
-            FSSELECTION,
+            FSSELECTION_ENTRY,
             number,
         )),
     }
@@ -241,7 +241,7 @@ pub fn unicode_bit(table: &[u8], level: u32, number: u32) -> Reply
             table,
             level,
             0,
-            UNICODE_RANGES + (number / 32) as usize,
+            os2_fields::unicode_range(number / 32),
             number % 32,
         )),
     }
@@ -257,7 +257,7 @@ pub fn code_page_bit(table: &[u8], level: u32, number: u32) -> Reply
             table,
             level,
             1,
-            CODE_PAGES + (number / 32) as usize,
+            os2_fields::code_pages(number / 32),
             number % 32,
         )),
     }
@@ -304,9 +304,10 @@ fn opened(table: &[u8], level: u32, question: Question) -> Checked
         Checked::Refused(why) => Checked::Refused(why),
         Checked::Accepted => {
             if surely_accepts(table, known) {
-                return Checked::Accepted;
+                Checked::Accepted
+            } else {
+                judge(table, known)
             }
-            judge(table, known)
         }
     }
 }
@@ -341,14 +342,15 @@ fn at_most(number: u32, largest: u32, why: Refusal) -> Checked
 fn surely_accepts(table: &[u8], known: Level) -> bool
     ensures { λ r. ⌜ (r ≡ true → judged (numberOf known) (now (table .entry)) ≡ accepted) ⌝ }
 {
-    if table.len() < 2 {
+    let size = table.len();
+    if size < 2 {
         return false;
     }
     let version = os2_fields::version(table);
     if known.number() < version as u32 {
         return false;
     }
-    if table.len() < level::version_size(version as u32) {
+    if size < level::version_size(version as u32) {
         return false;
     }
     os2_rules::keeps(os2_fields::values(table))
@@ -410,9 +412,9 @@ pub fn field_answer(table: &[u8], level: u32, k: usize) -> Answer
 }
 
 // A bit of a field of an accepted table, of what came in with version `since`.
-fn bit_answer(table: &[u8], level: u32, since: u32, k: usize, n: u32) -> Answer
-    requires { ⌜ BitAsked (now table) level since k n ⌝ }
-    ensures { λ r. ⌜ saidAnswer r ≡ bySince since level (version (now (table .entry))) (integer (pos (bit n (raw (now (table .entry)) k)))) ⌝ }
+fn bit_answer(table: &[u8], level: u32, since: u32, f: Field, n: u32) -> Answer
+    requires { ⌜ BitAsked (now table) level since f n ⌝ }
+    ensures { λ r. ⌜ saidAnswer r ≡ bySince since level (version (now (table .entry))) (integer (pos (bit n (rawIn (now (table .entry)) f)))) ⌝ }
 {
     if above(since, level) {
         return Answer::NotKnown;
@@ -420,7 +422,7 @@ fn bit_answer(table: &[u8], level: u32, since: u32, k: usize, n: u32) -> Answer
     if above(since, version_of(table)) {
         return Answer::Absent;
     }
-    let number = os2_fields::number(table, os2_fields::entry(k));
+    let number = os2_fields::number(table, f);
     Answer::Value(os2_fields::plain(os2_fields::bit_of(number, n)))
 }
 

@@ -1,7 +1,7 @@
 // The catalogue of the 48 fields: the one place in the code that knows an offset.
 // Document 01, "The 'OS/2' fields", the table of fields.
 ghost use mathlib.Core.Path.{_≡_};
-ghost use Prim.Native.Nat.{_<_};
+ghost use Prim.Native.Nat.{_+_, _<_};
 ghost use Rattle.os2_fields.specs.Catalogue.{catalogue, fieldOf};
 
 // A field: where it stands, its width in bytes, whether it is signed, and the version that it came in with.
@@ -21,11 +21,7 @@ pub const WIDTH: usize = 3;
 
 pub const FSTYPE: usize = 4;
 
-pub const UNICODE_RANGES: usize = 26;
-
 pub const FSSELECTION: usize = 31;
-
-pub const CODE_PAGES: usize = 39;
 
 pub const LOWER_SIZE: usize = 46;
 
@@ -81,12 +77,82 @@ pub const UPPER_SIZE_ENTRY: Field = Field {
     since: 5,
 };
 
+const RANGE_0_ENTRY: Field = Field {
+    offset: 42,
+    width: 4,
+    signed: false,
+    since: 0,
+};
+
+const RANGE_1_ENTRY: Field = Field {
+    offset: 46,
+    width: 4,
+    signed: false,
+    since: 0,
+};
+
+const RANGE_2_ENTRY: Field = Field {
+    offset: 50,
+    width: 4,
+    signed: false,
+    since: 0,
+};
+
+const RANGE_3_ENTRY: Field = Field {
+    offset: 54,
+    width: 4,
+    signed: false,
+    since: 0,
+};
+
+const PAGE_0_ENTRY: Field = Field {
+    offset: 78,
+    width: 4,
+    signed: false,
+    since: 1,
+};
+
+const PAGE_1_ENTRY: Field = Field {
+    offset: 82,
+    width: 4,
+    signed: false,
+    since: 1,
+};
+
 // Field number k.
 pub fn entry(k: usize) -> Field
     requires { ⌜ k < 48 ⌝ }
     ensures { λ r. ⌜ r ≡ fieldOf k ⌝ }
 {
     FIELDS[k]
+}
+
+// Unicode range 0 to 3.
+pub fn unicode_range(i: u32) -> Field
+    requires { ⌜ i < 4 ⌝ }
+    ensures { λ r. ⌜ r ≡ fieldOf (26 + i) ⌝ }
+{
+    if i == 0 {
+        return RANGE_0_ENTRY;
+    }
+    if i == 1 {
+        return RANGE_1_ENTRY;
+    }
+    if i == 2 {
+        return RANGE_2_ENTRY;
+    }
+    RANGE_3_ENTRY
+}
+
+// Code pages 0 or 1.
+pub fn code_pages(i: u32) -> Field
+    requires { ⌜ i < 2 ⌝ }
+    ensures { λ r. ⌜ r ≡ fieldOf (39 + i) ⌝ }
+{
+    if i == 0 {
+        return PAGE_0_ENTRY;
+    }
+    PAGE_1_ENTRY
 }
 
 // The whole catalogue, for a loop over the fields.
@@ -238,30 +304,10 @@ const FIELDS: [Field; 48] = [
         since: 0,
     },
     // 26 to 29 Unicode ranges
-    Field {
-        offset: 42,
-        width: 4,
-        signed: false,
-        since: 0,
-    },
-    Field {
-        offset: 46,
-        width: 4,
-        signed: false,
-        since: 0,
-    },
-    Field {
-        offset: 50,
-        width: 4,
-        signed: false,
-        since: 0,
-    },
-    Field {
-        offset: 54,
-        width: 4,
-        signed: false,
-        since: 0,
-    },
+    RANGE_0_ENTRY,
+    RANGE_1_ENTRY,
+    RANGE_2_ENTRY,
+    RANGE_3_ENTRY,
     // 30 vendor
     Field {
         offset: 58,
@@ -315,18 +361,8 @@ const FIELDS: [Field; 48] = [
         since: 0,
     },
     // 39, 40 code pages
-    Field {
-        offset: 78,
-        width: 4,
-        signed: false,
-        since: 1,
-    },
-    Field {
-        offset: 82,
-        width: 4,
-        signed: false,
-        since: 1,
-    },
+    PAGE_0_ENTRY,
+    PAGE_1_ENTRY,
     // 41 x height, 42 cap height, 43 default, 44 break, 45 max context
     Field {
         offset: 86,

@@ -12,7 +12,6 @@ ghost use Rattle.os2_fields.specs.Reading.{Lies, Word, OpticalField};
 
 mod catalogue;
 
-pub use catalogue::CODE_PAGES;
 pub use catalogue::FSSELECTION;
 pub use catalogue::FSSELECTION_ENTRY;
 pub use catalogue::FSTYPE;
@@ -20,7 +19,6 @@ pub use catalogue::FSTYPE_ENTRY;
 pub use catalogue::Field;
 pub use catalogue::LOWER_SIZE;
 pub use catalogue::LOWER_SIZE_ENTRY;
-pub use catalogue::UNICODE_RANGES;
 pub use catalogue::UPPER_SIZE;
 pub use catalogue::UPPER_SIZE_ENTRY;
 pub use catalogue::VERSION;
@@ -29,8 +27,10 @@ pub use catalogue::WEIGHT;
 pub use catalogue::WEIGHT_ENTRY;
 pub use catalogue::WIDTH;
 pub use catalogue::WIDTH_ENTRY;
+pub use catalogue::code_pages;
 pub use catalogue::entries;
 pub use catalogue::entry;
+pub use catalogue::unicode_range;
 use os2_rules::Values;
 
 // What the value rules look at.

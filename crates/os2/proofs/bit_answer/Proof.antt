@@ -2,14 +2,13 @@
 -- Assumes nothing.
 use mathlib.Core.Path.{_≡_, sym, ap, _∙_}
 use mathlib.Core.Bool.{false}
-use native.Mathlib.Nat.{le-trans}
 use lib.IntN.{ℤ, pos}
 use mir.Facts.{toZ-ofZ}
 use Rattle.os2_fields.specs.Fields.{version}
 use Rattle.os2.specs.Outcomes.{value, integer}
 use Rattle.os2.specs.Asking.{above}
 use Rattle.os2.proofs.Laws.{above-le}
-use Rattle.os2.proofs.Accepting.{open-two, open-lies}
+use Rattle.os2.proofs.Accepting.{open-two}
 use borrow.Author.Needs.{needs}
 use Rattle.os2.proofs.bit_answer.Statement.{statement}
 use Rattle.os2.proofs.bit_answer.Tie as tie
@@ -36,11 +35,8 @@ above-requires-2 c κs = search needs
 returns-2 : tie.Need-returns-2
 returns-2 c = rw (knows (c .before .before .before), rw (c .before .before .version-of .ensures) at (sym (c .before .above2 .ensures) ∙ c .if2 .taken))
 
-entry-requires : tie.Need-entry-requires
-entry-requires c κs = search needs
-
 number-requires : tie.Need-number-requires
-number-requires c κs = rw (c .entry .ensures) (open-lies _ _ (c .before .before .before .before .before .before .before .pre .opened) _ (c .before .before .before .before .before .before .before .pre .field) (le-trans (c .before .before .before .before .before .before .before .pre .came) (above-le (knows (c .before .before .before .before)))) (le-trans (c .before .before .before .before .before .before .before .pre .came) (above-le (has (c .before)))))
+number-requires c κs = c .before .before .before .before .before .before .pre .lies (above-le (knows (c .before .before .before))) (above-le (has c))
 
 bit-of-requires : tie.Need-bit-of-requires
 bit-of-requires c κs = search needs
@@ -49,7 +45,7 @@ plain-requires : tie.Need-plain-requires
 plain-requires c κs = search needs
 
 returns-3 : tie.Need-returns-3
-returns-3 c = rw (knows (c .before .before .before .before .before .before .before), has (c .before .before .before .before)) (ap (λ (x : ℤ). value (integer x)) (toZ-ofZ (search needs) ∙ (c .plain .ensures ∙ ap pos (c .before .bit-of .ensures ∙ rw (c .before .before .number .ensures, c .before .before .before .entry .ensures)))))
+returns-3 c = rw (knows (c .before .before .before .before .before .before), has (c .before .before .before)) (ap (λ (x : ℤ). value (integer x)) (toZ-ofZ (search needs) ∙ (c .plain .ensures ∙ ap pos (c .before .bit-of .ensures ∙ rw (c .before .before .number .ensures)))))
 
 pub bit-answer-spec : {M : Type 1} → statement M
 bit-answer-spec =
@@ -60,7 +56,6 @@ bit-answer-spec =
     version-of-requires
     above-requires-2
     returns-2
-    entry-requires
     number-requires
     bit-of-requires
     plain-requires

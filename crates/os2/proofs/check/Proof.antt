@@ -24,14 +24,14 @@ surely-accepts-requires c κs = search needs
 level-is : (c : tie.After-known-told) → levelOf (c .before .before .before .before .before .args .level) ≡ Known (c .before .known .given .0 .0)
 level-is c = sym (c .before .before .before .new .ensures) ∙ c .before .known .given .1
 
-returns : tie.Need-returns
-returns c = sym (c .before .surely-accepts .ensures (c .if1 .taken)) ∙ checked-known _ _ (level-is (c .before .before))
-
 judge-requires : tie.Need-judge-requires
 judge-requires c κs = search needs
 
+returns : tie.Need-returns
+returns c = checked-refused _ _ (sym (c .before .before .new .ensures) ∙ c .enum-told .given .1)
+
 returns-2 : tie.Need-returns-2
-returns-2 c = checked-refused _ _ (sym (c .before .before .new .ensures) ∙ c .enum-told .given .1)
+returns-2 c = sym (c .before .surely-accepts .ensures (c .if1 .taken)) ∙ checked-known _ _ (level-is (c .before .before))
 
 returns-3 : tie.Need-returns-3
 returns-3 c = c .judge .ensures ∙ checked-known _ _ (level-is (c .before .before .before))
@@ -44,7 +44,7 @@ check-spec =
     enum-told
     enum-known-known
     surely-accepts-requires
-    returns
     judge-requires
+    returns
     returns-2
     returns-3)

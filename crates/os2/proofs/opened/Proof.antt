@@ -43,14 +43,14 @@ surely-accepts-requires c κs = search needs
 in-range-is : (c : tie.After-enum-told2) → accepted ≡ unless (outOfRange (c .before .before .before .before .before .before .before .before .args .question)) (ownRefusal (c .before .before .before .before .before .before .before .before .args .question)) accepted
 in-range-is c = sym (ap saidCheck (c .enum-told2 .given .1)) ∙ c .before .before .in-range .ensures
 
-returns-2 : tie.Need-returns-2
-returns-2 c = opened-judged _ _ _ (level-is (c .before .before .before .before .before)) (in-range-is (c .before .before)) (sym (c .before .surely-accepts .ensures (c .if1 .taken)))
-
 judge-requires : tie.Need-judge-requires
 judge-requires c κs = search needs
 
+returns-2 : tie.Need-returns-2
+returns-2 c = opened-own _ _ _ (level-is (c .before .before .before .before)) (sym (ap saidCheck (c .before .why .given .1)) ∙ c .before .before .before .in-range .ensures)
+
 returns-3 : tie.Need-returns-3
-returns-3 c = opened-own _ _ _ (level-is (c .before .before .before .before)) (sym (ap saidCheck (c .before .why .given .1)) ∙ c .before .before .before .in-range .ensures)
+returns-3 c = opened-judged _ _ _ (level-is (c .before .before .before .before .before)) (in-range-is (c .before .before)) (sym (c .before .surely-accepts .ensures (c .if1 .taken)))
 
 returns-4 : tie.Need-returns-4
 returns-4 c = opened-judged _ _ _ (level-is (c .before .before .before .before .before .before)) (in-range-is (c .before .before .before)) (c .judge .ensures)
@@ -67,7 +67,7 @@ opened-spec =
     enum-known-why
     enum-told-2
     surely-accepts-requires
-    returns-2
     judge-requires
+    returns-2
     returns-3
     returns-4)
