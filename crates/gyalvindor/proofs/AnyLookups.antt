@@ -22,7 +22,7 @@ use Rattle.name.proofs.Layouts.{number-most}
 use Rattle.name.proofs.Theorems.{accepted-exactly-when}
 use Rattle.name_lookup.specs.Answers.{afterCheck, lookupOf, said}
 use Rattle.name_lookup.specs.Exactly.{HasKey}
-use Rattle.name_lookup.specs.declared.Answer.the-variants.{NoRecord}
+use Rattle.name_lookup.specs.declared.Answer.the-variants.{NoRecord, Refused}
 use Rattle.name_lookup.specs.declared.Numbered.the-variants.{Text, Refusal}
 use Rattle.name_lookup.proofs.Theorems.{found-exactly-when, missing-exactly-when}
 use Rattle.gyalvindor.specs.Lookups.{beyond, anyBeyond, lookupAny, FoundByAny, MissingByAny}
@@ -50,7 +50,7 @@ small-exactly p e l n = (
 )
 
 module _ (t : List ℕ) (p e l n : ℕ) where
-  pub any-none : anyBeyond p e l n ≡ true → lookupAny t p e l n ≡ afterCheck (checkOf t) NoRecord
+  pub any-none : anyBeyond p e l n ≡ true → lookupAny t p e l n ≡ afterCheck Refused (checkOf t) NoRecord
   unfolding lookupAny
   any-none h = rw h
 
@@ -72,7 +72,6 @@ module _ (t : List ℕ) (p e l n : ℕ) where
         let z : _≡_ {A = ℕ} 0 1 = cc in omega arith
 
 pub found-by-any : FoundByAny lookupAny
-unfolding afterCheck
 found-by-any t b p e l n s m = by (anyBeyond p e l n) refl
   where
     by : (a : Bool) → anyBeyond p e l n ≡ a → (said (lookupAny t p e l n) ≡ Text s m)
@@ -82,13 +81,12 @@ found-by-any t b p e l n s m = by (anyBeyond p e l n) refl
         rw (any-plain t p e l n h) (found-exactly-when t b p e l n (omega arith) (omega arith) (omega arith) (omega arith) s m)
     by true h = rw (any-none t p e l n h) (forth (checkOf t), λ x. absurd (not-beyond t p e l n b h (x .1 .0) (x .1 .1)))
       where
-        forth : (v : Verdict) → said (afterCheck v NoRecord) ≡ Text s m
+        forth : (v : Verdict) → said (afterCheck Refused v NoRecord) ≡ Text s m
             → Acceptable t × ((i : ℕ) × HasKey t p e l n i × (s ≡ stringStart t (textAt i)) × (m ≡ stringLength t (textAt i)))
         forth verdict.Accepted q = let z : _≡_ {A = ℕ} 0 1 = cc in absurd (omega arith)
         forth (verdict.Refused r) q = let z : _≡_ {A = ℕ} 0 1 = cc in absurd (omega arith)
 
 pub missing-by-any : MissingByAny lookupAny
-unfolding afterCheck
 missing-by-any t b p e l n = by (anyBeyond p e l n) refl
   where
     by : (a : Bool) → anyBeyond p e l n ≡ a → (said (lookupAny t p e l n) ≡ Refusal 20 Nowhere) ↔ (Acceptable t × ((i : ℕ) → HasKey t p e l n i → ⊥))
@@ -97,6 +95,6 @@ missing-by-any t b p e l n = by (anyBeyond p e l n) refl
         rw (any-plain t p e l n h) (missing-exactly-when t b p e l n (omega arith) (omega arith) (omega arith) (omega arith))
     by true h = rw (any-none t p e l n h) (λ q. (accepted-exactly-when t b .0 (forth (checkOf t) q), not-beyond t p e l n b h), λ x. rw (accepted-exactly-when t b .1 (x .0)))
       where
-        forth : (v : Verdict) → said (afterCheck v NoRecord) ≡ Refusal 20 Nowhere → v ≡ verdict.Accepted
+        forth : (v : Verdict) → said (afterCheck Refused v NoRecord) ≡ Refusal 20 Nowhere → v ≡ verdict.Accepted
         forth verdict.Accepted q = refl
         forth (verdict.Refused r) q = let z : numberOf r ≡ 20 = cc in absurd (omega (arith, number-most r))

@@ -36,10 +36,10 @@ use Rattle.os2_rules.specs.Tests.{verdictOf}
 use Rattle.os2_style.specs.Style.{Sizes, every, upwards, between}
 use Rattle.os2.specs.declared.Question.{Question}
 use Rattle.os2.specs.declared.Question.the-variants.{Field, SelectionBit, UnicodeBit, CodePageBit, Rights, StylePosition, OpticalSizes}
-use Rattle.os2.specs.Outcomes.{Value, integer, rights, position, sizes, Said, value, absent, not-known, Outcome, refused, answered, accepted, unless, unlessBroken, answering}
+use Rattle.os2.specs.Outcomes.{Value, integer, rights, position, sizes, Said, value, absent, not-known, Outcome, refused, answered, accepted, unless, unlessBroken, passing}
 use Rattle.os2.specs.Acceptance.{short, ruling, judged, checked}
 use Rattle.os2.specs.Writing.{numberFor, codeFor, noVersion, lowestMisfit, unlessMisfit, valuesFor, write}
-use Rattle.os2_writer.specs.Rewriting.{passing, rewritten}
+use Rattle.os2_writer.specs.Rewriting.{rewritten}
 use Rattle.os2_fields.specs.Fields.{version}
 use Rattle.os2.specs.Questions.{since, onWhole}
 use Rattle.os2.specs.Asking.{valueOf, above, given, opened, ask}
@@ -85,7 +85,7 @@ opticalSaid w =
 
 -- what holds of refusals, of absent and not known, and of the value asked for, holds of what a question answers
 module _ (Told : Outcome Said → Type 0) (of-refusal : (n : ℕ) (c : Option ℕ) → Told (refused n c)) (of-absent : Told (answered absent)) (of-not-known : Told (answered not-known)) where
-  answer-told : (o : Outcome (Unit {0})) (s : Said) → Told (answered s) → Told (answering o s)
+  answer-told : (o : Outcome (Unit {0})) (s : Said) → Told (answered s) → Told (passing o (answered s))
   answer-told (refused n c) s t = of-refusal n c
   answer-told (answered u) s t = t
 

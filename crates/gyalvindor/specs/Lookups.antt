@@ -13,7 +13,7 @@ use Rattle.name.specs.declared.Place.the-variants.{Nowhere}
 use Rattle.name_lookup.specs.Answers.{afterCheck, lookupOf, said}
 use Rattle.name_lookup.specs.Exactly.{HasKey}
 use Rattle.name_lookup.specs.declared.Answer.{Answer}
-use Rattle.name_lookup.specs.declared.Answer.the-variants.{NoRecord}
+use Rattle.name_lookup.specs.declared.Answer.the-variants.{NoRecord, Refused}
 use Rattle.name_lookup.specs.declared.Numbered.the-variants.{Text, Refusal}
 
 -- a number that is no part of a key
@@ -26,7 +26,7 @@ anyBeyond platform encoding language name = (beyond platform || beyond encoding)
 -- 20 then, after the table's check
 unfoldable pub lookupAny : List ℕ → ℕ → ℕ → ℕ → ℕ → Answer
 lookupAny t platform encoding language name =
-    cond (anyBeyond platform encoding language name) (afterCheck (checkOf t) NoRecord) (lookupOf t platform encoding language name)
+    cond (anyBeyond platform encoding language name) (afterCheck Refused (checkOf t) NoRecord) (lookupOf t platform encoding language name)
 
 -- of any lookup, whatever the four numbers are: it answers start s and length m exactly when the table is accepted and a record has them, and s and m
 -- are its own

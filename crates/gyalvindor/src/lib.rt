@@ -429,7 +429,7 @@ fn either_beyond(a: u32, b: u32) -> bool
 
 // The table's refusal, else 20.
 fn in_no_record(table: &[u8]) -> Answer
-    ensures { λ r. ⌜ r ≡ afterCheck (checkOf (now (table .entry))) Answer.NoRecord ⌝ }
+    ensures { λ r. ⌜ r ≡ afterCheck Answer.Refused (checkOf (now (table .entry))) Answer.NoRecord ⌝ }
 {
     match name::check(table) {
         Verdict::Accepted => Answer::NoRecord,

@@ -1,7 +1,13 @@
 -- What is known of a table that was read.
-use Prim.Native.Nat.{ℕ, _≤_}
+use mathlib.Core.Bool.{cond}
+use lib.Dec.{ltb}
+use Prim.Native.Nat.{ℕ, _-_, _≤_}
 use Rattle.listing_io.specs.declared.Input.{Input}
 use Rattle.listing_io.specs.declared.Input.the-variants.{Table, TooLong, Unread}
+
+-- where the next line goes in a buffer of n bytes: behind the first `end`, or at the start where fewer than 160 bytes are left
+unfoldable pub behind : ℕ → ℕ → ℕ
+behind n end = cond (ltb (n - end) 160) 0 end
 
 -- its bytes lie within the room
 abbrev pub Within : Input → ℕ → Type 0

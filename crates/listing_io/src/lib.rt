@@ -2,7 +2,8 @@
 // No contract can say what a call of the operating system reads or writes, so the contracts give bounds alone.
 ghost use Prim.Native.Nat.{_+_, _≤_};
 ghost use lib.ListN.{length};
-ghost use Rattle.listing_io.specs.Inputs.{Within};
+ghost use mathlib.Core.Path.{_≡_};
+ghost use Rattle.listing_io.specs.Inputs.{Within, behind};
 use libc::STDERR_FILENO;
 use libc::STDIN_FILENO;
 use libc::STDOUT_FILENO;
@@ -75,7 +76,7 @@ fn read_from(fd: i32, path: &[u8], room: &mut [u8]) -> Input
 // Where the next line goes: behind what stands already, or at the start, once that is written out for want of room.
 pub fn room_behind(out: &[u8], end: usize) -> usize
     requires { ⌜ (160 ≤ length (now out)) × (end ≤ length (now out)) ⌝ }
-    ensures { λ r. ⌜ r + 160 ≤ length (now (out .entry)) ⌝ }
+    ensures { λ r. ⌜ (r + 160 ≤ length (now (out .entry))) × (r ≡ behind (length (now (out .entry))) end) ⌝ }
 {
     if out.len() - end < 160 {
         write(&out[..end]);

@@ -1,10 +1,11 @@
 -- Document 01, "Numbers are decimal": a number as text, and what a function that writes a piece of a line leaves.
-use Prim.Native.Nat.{ℕ, zero, suc, _+_, _-_, _*_, _/_, _%_, _^_, _≤_, _<_}
+use Prim.Native.Nat.{ℕ, zero, suc, _+_, _/_, _%_, _^_, _≤_, _<_}
 use mathlib.Core.Path.{_≡_}
 use mathlib.Core.Bool.{cond}
 use mathlib.Core.List.{List, [], _∷_, _++_}
 use lib.Dec.{ltb}
 use lib.ListN.{length, take, getD}
+use Rattle.characters.specs.Digits.{longer}
 
 -- the code of a number's last digit
 abbrev pub lastDigit : ℕ → ℕ
@@ -22,7 +23,7 @@ decimal n = digits 20 n []
 -- the number that a text of digits reads as, behind a number read already
 abbrev pub readsFrom : ℕ → List ℕ → ℕ
 readsFrom n [] = n
-readsFrom n (d ∷ ds) = readsFrom (n * 10 + (d - 48)) ds
+readsFrom n (d ∷ ds) = readsFrom (longer n d) ds
 
 -- the digits of a number of 64 bits, or of any below 10 ^ 20, read as that number
 abbrev pub DecimalReads : Type 0

@@ -12,21 +12,21 @@ use bigendian::read_u16;
 use bigendian::read_u32;
 
 // The bytes of the format, the count and the storage start.
-const HEADER_SIZE: usize = 6;
+pub const HEADER_SIZE: usize = 6;
 
 // The bytes of a name record, and where its parts after the platform stand in it.
-const RECORD_SIZE: usize = 12;
+pub const RECORD_SIZE: usize = 12;
 
-const ENCODING: usize = 2;
+pub const ENCODING: usize = 2;
 
-const LANGUAGE: usize = 4;
+pub const LANGUAGE: usize = 4;
 
-const NAME: usize = 6;
+pub const NAME: usize = 6;
 
-const LENGTH: usize = 8;
+pub const LENGTH: usize = 8;
 
 // A string's offset stands so many bytes after its length, in a record and in a tag.
-const OFFSET: usize = 2;
+pub const OFFSET: usize = 2;
 
 // The bytes of the tag count, and of a tag.
 const TAG_COUNT_SIZE: usize = 2;

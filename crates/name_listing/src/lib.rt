@@ -13,26 +13,18 @@ ghost use Rattle.listing_lines.specs.Lines.{lineOf};
 ghost use Rattle.name_listing.specs.Listings.{headText, recordText, postscriptText, versionText, refusalText};
 use bigendian::read_u16;
 use listing_lines::Line;
+use name::ENCODING;
+use name::HEADER_SIZE;
+use name::LANGUAGE;
+use name::LENGTH;
+use name::NAME;
+use name::OFFSET;
 use name::Place;
+use name::RECORD_SIZE;
 use name::Refusal;
 use name::Verdict;
 use name_lookup::Numbered;
 use name_strings::NumberedVersion;
-
-// "Format, count, storage start", and then the records.
-const HEADER_SIZE: usize = 6;
-// "Then 12 bytes a record: platform, encoding, language, name, length, offset": where each of the first five stands.
-const RECORD_SIZE: usize = 12;
-
-const ENCODING: usize = 2;
-
-const LANGUAGE: usize = 4;
-
-const NAME: usize = 6;
-
-const LENGTH: usize = 8;
-// Where the offset stands behind the length.
-const OFFSET: usize = 2;
 
 // The one line of a refused table.
 pub fn refusal_line(refusal: Refusal) -> Line

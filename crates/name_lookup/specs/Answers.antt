@@ -6,6 +6,7 @@ use Rattle.name.specs.Refusals.{numberOf, placeOf}
 use Rattle.name.specs.Acceptance.{checkOf}
 use Rattle.name.specs.declared.Place.{Place}
 use Rattle.name.specs.declared.Place.the-variants.{Nowhere, At}
+use Rattle.name.specs.declared.Refusal.{Refusal}
 use Rattle.name.specs.declared.Verdict.{Verdict}
 use Rattle.name.specs.declared.Verdict.the-variants as verdict
 use Rattle.name_lookup.specs.declared.Answer.{Answer}
@@ -24,12 +25,12 @@ answerOf t (At i) = Found (textOf t i)
 answerOf t Nowhere = NoRecord
 
 -- "Every 'name' question checks the whole table first and passes on that refusal."
-unfoldable pub afterCheck : Verdict → Answer → Answer
-afterCheck verdict.Accepted a = a
-afterCheck (verdict.Refused r) a = Refused r
+abbrev pub afterCheck : {A : Type 0} → (Refusal → A) → Verdict → A → A
+afterCheck refused verdict.Accepted a = a
+afterCheck refused (verdict.Refused r) a = refused r
 
 unfoldable pub lookupOf : List ℕ → ℕ → ℕ → ℕ → ℕ → Answer
-lookupOf t platform encoding language name = afterCheck (checkOf t) (answerOf t (recordOf t platform encoding language name))
+lookupOf t platform encoding language name = afterCheck Refused (checkOf t) (answerOf t (recordOf t platform encoding language name))
 
 -- an answer in document 01's numbers
 abbrev pub said : Answer → Numbered

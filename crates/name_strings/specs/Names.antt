@@ -8,11 +8,11 @@ use Rattle.name.specs.Refusals.{numberOf, placeOf}
 use Rattle.name.specs.declared.Place.{Place}
 use Rattle.name.specs.declared.Place.the-variants.{Nowhere, At}
 use Rattle.name.specs.declared.Text.{Text}
-use Rattle.name_lookup.specs.Answers.{recordOf}
+use Rattle.name_lookup.specs.Answers.{afterCheck, recordOf}
 use Rattle.name_lookup.specs.declared.Numbered.{Numbered}
 use Rattle.name_lookup.specs.declared.Numbered.the-variants as numbered
 use Rattle.characters.specs.Strings.{characters}
-use Rattle.name_strings.specs.Records.{afterCheck, bytesOf}
+use Rattle.name_strings.specs.Records.{bytesOf}
 use Rattle.name_strings.specs.Forms.{illFormed, differ}
 use Rattle.name_strings.specs.declared.PostscriptAnswer.{PostscriptAnswer}
 use Rattle.name_strings.specs.declared.PostscriptAnswer.the-variants.{Name, NoRecord, OneRecord, IllFormed, Different, Refused}

@@ -6,11 +6,11 @@ use Rattle.name.specs.Acceptance.{checkOf}
 use Rattle.name.specs.Refusals.{numberOf, placeOf}
 use Rattle.name.specs.declared.Place.{Place}
 use Rattle.name.specs.declared.Place.the-variants.{Nowhere, At}
-use Rattle.name_lookup.specs.Answers.{recordOf}
+use Rattle.name_lookup.specs.Answers.{afterCheck, recordOf}
 use Rattle.version_text.specs.Versions.{versionIn}
 use Rattle.version_text.specs.declared.Version.{Version}
 use Rattle.version_text.specs.declared.Version.the-variants as text
-use Rattle.name_strings.specs.Records.{afterCheck, bytesOf}
+use Rattle.name_strings.specs.Records.{bytesOf}
 use Rattle.name_strings.specs.declared.VersionAnswer.{VersionAnswer}
 use Rattle.name_strings.specs.declared.VersionAnswer.the-variants.{Number, NoRecord, NoNumber, Refused}
 use Rattle.name_strings.specs.declared.NumberedVersion.{NumberedVersion}

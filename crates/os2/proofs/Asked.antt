@@ -14,7 +14,7 @@ use Rattle.level.specs.declared.LevelAnswer.the-variants.{Known, Refused}
 use Rattle.level.proofs.Laws.{known, refused as level-refused}
 use Rattle.os2.specs.declared.Question.{Question}
 use Rattle.os2_fields.specs.Fields.{version}
-use Rattle.os2.specs.Outcomes.{Value, not-known, value, Outcome, refused, accepted, unless, answering}
+use Rattle.os2.specs.Outcomes.{Value, not-known, value, Outcome, refused, answered, accepted, unless, passing}
 use Rattle.os2.specs.Acceptance.{judged, checked}
 use Rattle.os2.specs.Questions.{outOfRange, ownRefusal, since, onWhole}
 use Rattle.os2.specs.Asking.{above, valueOf, bySince, given, opened, ask}
@@ -75,7 +75,7 @@ module _ (L : ℕ) (b : List ℕ) where
         level false e = own (outOfRange q) e
 
     -- what comes before the answer, and then the answer
-    pub asked-opened : {o : Outcome (Unit {0})} → o ≡ opened L b q → answering o (given L b q) ≡ ask L b q
+    pub asked-opened : {o : Outcome (Unit {0})} → o ≡ opened L b q → passing o (answered (given L b q)) ≡ ask L b q
     unfolding ask
     asked-opened e = rw e
 

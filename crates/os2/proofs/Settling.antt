@@ -17,7 +17,7 @@ use Rattle.os2.specs.declared.Question.{Question}
 use Rattle.os2.specs.declared.Question.the-variants.{Field, SelectionBit, UnicodeBit, CodePageBit, Rights, StylePosition, OpticalSizes}
 use Rattle.os2_fields.specs.Fields.{raw, version, valuesOf}
 use Rattle.os2_style.specs.Style.{Sizes, every, upwards, between, rightsOf, points, sizesOf}
-use Rattle.os2.specs.Outcomes.{Value, rights, sizes, Said, value, absent, not-known, Outcome, refused, answered, answering, accepted, unless, unlessBroken}
+use Rattle.os2.specs.Outcomes.{Value, rights, sizes, Said, value, absent, not-known, Outcome, refused, answered, passing, accepted, unless, unlessBroken}
 use Rattle.os2.specs.Acceptance.{short, ruling, judged, checked}
 use Rattle.os2.specs.Questions.{outOfRange, ownRefusal, since, onWhole}
 use Rattle.os2.specs.Asking.{above, valueOf, bySince, given, opened, ask}
@@ -205,7 +205,7 @@ module _ (L : ℕ) (b : List ℕ) (q : Question) where
   unfolding ask opened
   ask-own h e = rw (le-ltb 5 L h, e)
 
-  pub ask-judged : L ≤ 5 → outOfRange q ≡ false → ask L b q ≡ answering (judged L b) (given L b q)
+  pub ask-judged : L ≤ 5 → outOfRange q ≡ false → ask L b q ≡ passing (judged L b) (answered (given L b q))
   unfolding ask opened
   ask-judged h e = rw (le-ltb 5 L h, e)
 

@@ -10,7 +10,7 @@ use Rattle.os2.specs.declared.Question.{Question}
 use Rattle.os2.specs.declared.Question.the-variants.{Field, SelectionBit, UnicodeBit, CodePageBit, Rights, StylePosition, OpticalSizes}
 use Rattle.os2_fields.specs.Catalogue.{fieldOf}
 use Rattle.os2_fields.specs.Fields.{valueIn, raw, version}
-use Rattle.os2.specs.Outcomes.{Value, integer, rights, position, sizes, Said, value, absent, not-known, Outcome, unless, answering}
+use Rattle.os2.specs.Outcomes.{Value, integer, rights, position, sizes, Said, value, absent, not-known, Outcome, answered, unless, passing}
 use Rattle.os2.specs.Acceptance.{judged}
 use Rattle.os2.specs.Questions.{outOfRange, ownRefusal, since, onWhole}
 
@@ -45,4 +45,4 @@ opened L b q =
 
 -- "the answer last"
 unfoldable pub ask : ℕ → List ℕ → Question → Outcome Said
-ask L b q = answering (opened L b q) (given L b q)
+ask L b q = passing (opened L b q) (answered (given L b q))

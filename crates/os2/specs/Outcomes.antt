@@ -41,7 +41,7 @@ abbrev pub unlessBroken : {A : Type 0} → Verdict → Outcome A → Outcome A
 unlessBroken (Broken k) o = refused 3 (some k)
 unlessBroken Kept o = o
 
--- the refusal, or else the answer
-abbrev pub answering : {A B : Type 0} → Outcome A → B → Outcome B
-answering (refused n c) a = refused n c
-answering (answered x) a = answered a
+-- the refusal, or else what comes after it in the order
+abbrev pub passing : {A B : Type 0} → Outcome A → Outcome B → Outcome B
+passing (refused n c) o = refused n c
+passing (answered x) o = o

@@ -2,7 +2,7 @@
 -- Assumes nothing.
 use Prim.Native.Nat.{ℕ, _<_, _^_}
 use mathlib.Core.Path.{_≡_}
-use mathlib.Core.Logic.{_⊎_, inl, inr}
+use mathlib.Core.Logic.{inl, inr}
 use mathlib.Core.Bool.{true, false}
 use mathlib.Core.List.{List}
 use native.Mathlib.Omega.{arith}
@@ -15,6 +15,7 @@ use mir.Facts.{toZ-pos}
 use Rattle.bigendian.specs.Numbers.{number}
 use Rattle.bigendian.proofs.Laws.{number-1}
 use Rattle.os2_fields.specs.declared.catalogue.Field.{Field}
+use Rattle.os2_fields.specs.Reading.{Wide}
 use Rattle.os2_fields.specs.Fields.{rawIn, signedOf, valueIn}
 
 -- a number of up to 32 bits, read as an i64
@@ -26,7 +27,7 @@ pub less-fits : (x : ℕ) → x < 65536 → SFits w64 (pos x -ℤ pos 65536)
 less-fits x h = record { sfits = simp (lt-ltb x 65536 h) (omega arith) }
 
 -- a width that is neither 1 nor 2 is 4
-pub four : {n : ℕ} → (n ≡ 1) ⊎ ((n ≡ 2) ⊎ (n ≡ 4)) → (n ≡ 1 → ⊥) → (n ≡ 2 → ⊥) → n ≡ 4
+pub four : {n : ℕ} → Wide n → (n ≡ 1 → ⊥) → (n ≡ 2 → ⊥) → n ≡ 4
 four (inl e) a b = absurd (a e)
 four (inr (inl e)) a b = absurd (b e)
 four (inr (inr e)) a b = e

@@ -14,7 +14,7 @@ use Rattle.level.specs.Sizes.{tableSize}
 use Rattle.level.proofs.Laws.{size-rises}
 use Rattle.os2_fields.specs.declared.catalogue.Field.{Field}
 use Rattle.os2_fields.specs.Catalogue.{catalogue, fieldOf}
-use Rattle.os2_fields.specs.Reading.{Lies, Word}
+use Rattle.os2_fields.specs.Reading.{Wide, Sound, Lies, Word}
 
 both : (a b : Bool) → T (a && b) → T a × T b
 both true b t = (tt, t)
@@ -65,15 +65,15 @@ sound k =
     (widthTest (fieldOf k) && (signTest (fieldOf k) && (insideTest (fieldOf k) && (outsideTest (fieldOf k) && orderTest k))))
 
 -- what the test says of a field
-record Sound (k : ℕ) : Type 0 where
+record Tested (k : ℕ) : Type 0 where
   starts : fieldOf k .offset ≡ start k
-  width : (fieldOf k .width ≡ 1) ⊎ ((fieldOf k .width ≡ 2) ⊎ (fieldOf k .width ≡ 4))
+  width : Wide (fieldOf k .width)
   sign : fieldOf k .signed ≡ true → fieldOf k .width ≡ 2
   inside : fieldOf k .offset + fieldOf k .width ≤ tableSize (fieldOf k .since)
   outside : (v : ℕ) → v < fieldOf k .since → tableSize v ≤ fieldOf k .offset
   order : (k ≡ 47 → ⊥) → fieldOf k .since ≤ fieldOf (suc k) .since
 
-tested : (k : ℕ) → T (sound k) → Sound k
+tested : (k : ℕ) → T (sound k) → Tested k
 tested k t =
     let f : Field = fieldOf k in
     let a = both (eqb (f .offset) (start k)) _ t in
@@ -90,14 +90,14 @@ tested k t =
       order = next (e .1);
     }
   where
-    widths : (n : ℕ) → T (eqb n 1 || (eqb n 2 || eqb n 4)) → (n ≡ 1) ⊎ ((n ≡ 2) ⊎ (n ≡ 4))
+    widths : (n : ℕ) → T (eqb n 1 || (eqb n 2 || eqb n 4)) → Wide n
     widths n u = one (either (eqb n 1) _ u)
       where
-        two : T (eqb n 2) ⊎ T (eqb n 4) → (n ≡ 1) ⊎ ((n ≡ 2) ⊎ (n ≡ 4))
+        two : T (eqb n 2) ⊎ T (eqb n 4) → Wide n
         two (inl e) = inr (inl (eqb→eq n 2 e))
         two (inr e) = inr (inr (eqb→eq n 4 e))
 
-        one : T (eqb n 1) ⊎ T (eqb n 2 || eqb n 4) → (n ≡ 1) ⊎ ((n ≡ 2) ⊎ (n ≡ 4))
+        one : T (eqb n 1) ⊎ T (eqb n 2 || eqb n 4) → Wide n
         one (inl e) = inl (eqb→eq n 1 e)
         one (inr e) = two (either (eqb n 2) (eqb n 4) e)
 
@@ -119,7 +119,7 @@ tested k t =
         at (inl e) = absurd (n (eqb→eq k 47 e))
         at (inr e) = leb→le (fieldOf k .since) (fieldOf (suc k) .since) e
 
-fields : (k : ℕ) → k < 48 → Sound k
+fields : (k : ℕ) → k < 48 → Tested k
 unfolding fieldOf catalogue start tableSize
 fields k h = tested k (below 48 sound tt k h)
 
@@ -163,8 +163,8 @@ pub fills : (k v : ℕ) → k < 47 → fieldOf k .since ≤ v → v < fieldOf (s
 fills k v h s l = omega (arith, inside k v (omega arith) s, outside (suc k) v (omega arith) l, adjoin k h)
 
 -- a field has 1, 2 or 4 bytes, a signed one has two
-pub width-is : (k : ℕ) → k < 48 → (fieldOf k .width ≡ 1) ⊎ ((fieldOf k .width ≡ 2) ⊎ (fieldOf k .width ≡ 4))
-width-is k h = fields k h .width
+pub sound-is : (k : ℕ) → k < 48 → Sound (fieldOf k)
+sound-is k h = record { wide = fields k h .width; signs = fields k h .sign }
 
 pub sign-width : (k : ℕ) → k < 48 → fieldOf k .signed ≡ true → fieldOf k .width ≡ 2
 sign-width k h = fields k h .sign
@@ -183,8 +183,7 @@ pub lies : (b : List ℕ) (k v : ℕ) → k < 48 → fieldOf k .since ≤ v → 
 lies b k v h s l =
     record {
       inside = le-trans (inside k v h s) l;
-      wide = fields k h .width;
-      signs = fields k h .sign;
+      sound = sound-is k h;
     }
 
 -- the same of a field of two bytes
@@ -194,9 +193,7 @@ word b k v h w s l = record { lies = lies b k v h s l; two = w }
 -- two bytes are enough for the version
 pub version-word : (b : List ℕ) → 2 ≤ length b → Word b (fieldOf 0)
 unfolding fieldOf catalogue
-version-word b h =
-    let s : Sound 0 = fields 0 (omega arith) in
-    record { lies = record { inside = h; wide = s .width; signs = s .sign }; two = refl }
+version-word b h = record { lies = record { inside = h; sound = sound-is 0 (omega arith) }; two = refl }
 
 -- the Unicode ranges came in with version 0, the code pages with version 1
 pub range-since : (n : ℕ) → n < 4 → fieldOf (26 + n) .since ≤ 0

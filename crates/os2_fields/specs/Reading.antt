@@ -9,11 +9,19 @@ use Rattle.level.specs.Sizes.{tableSize}
 use Rattle.os2_fields.specs.declared.catalogue.Field.{Field}
 use Rattle.os2_fields.specs.Fields.{version}
 
--- a field lies within the table, is 1, 2 or 4 bytes wide, and 2 where it is signed
+-- a width of 1, 2 or 4 bytes
+abbrev pub Wide : ℕ → Type 0
+Wide n = (n ≡ 1) ⊎ ((n ≡ 2) ⊎ (n ≡ 4))
+
+-- a field as the catalogue has them: 1, 2 or 4 bytes, and 2 where it is signed
+pub record Sound (f : Field) : Type 0 where
+  pub wide : Wide (f .width)
+  pub signs : f .signed ≡ true → f .width ≡ 2
+
+-- such a field lies within the table
 pub record Lies (b : List ℕ) (f : Field) : Type 0 where
   pub inside : f .offset + f .width ≤ length b
-  pub wide : (f .width ≡ 1) ⊎ ((f .width ≡ 2) ⊎ (f .width ≡ 4))
-  pub signs : f .signed ≡ true → f .width ≡ 2
+  pub sound : Sound f
 
 -- a field of two bytes that lies within the table
 pub record Word (b : List ℕ) (f : Field) : Type 0 where

@@ -20,7 +20,7 @@ use Rattle.bigendian.specs.Numbers.{stored}
 use Rattle.os2_fields.specs.declared.catalogue.Field.{Field}
 use Rattle.os2.specs.Writing.{fits, codeOf, noVersion}
 use Rattle.os2.proofs.Codes.{code-small, code-plain}
-use Rattle.os2_writer.specs.Storing.{Wide, Sound}
+use Rattle.os2_fields.specs.Reading.{Wide, Sound}
 
 -- the register's number back as it was
 pub kept : (x : ℤ) → SFits w64 x → toZ w64 (ofZ w64 x) ≡ x
@@ -28,12 +28,6 @@ kept x h = toZ-ofZ h
 
 pub small-fits : (n : ℕ) → n < 2 ^ 32 → SFits w64 (pos n)
 small-fits n h = record { sfits = omega arith }
-
--- a width that is neither 1 nor 2 is 4
-pub four : {n : ℕ} → Wide n → (n ≡ 1 → ⊥) → (n ≡ 2 → ⊥) → n ≡ 4
-four (inl e) a b = absurd (a e)
-four (inr (inl e)) a b = absurd (b e)
-four (inr (inr e)) a b = e
 
 pub top-fits : (n : ℕ) → Wide n → SFits w64 (pos (256 ^ n))
 top-fits n (inl e) = rw e (record { sfits = omega arith })

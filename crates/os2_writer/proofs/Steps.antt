@@ -14,7 +14,7 @@ use lib.IntN.{ℤ, pos}
 use Rattle.level.specs.Sizes.{tableSize}
 use Rattle.os2_fields.specs.declared.catalogue.Field.{Field}
 use Rattle.os2_fields.specs.Catalogue.{plain, catalogue, fieldOf}
-use Rattle.os2_fields.proofs.Tiling.{inside, width-is, sign-width, since-rises}
+use Rattle.os2_fields.proofs.Tiling.{inside, sound-is, since-rises}
 use Rattle.os2_fields.specs.Fields.{version}
 use Rattle.os2_fields.specs.Reading.{Lies}
 use Rattle.os2.specs.Outcomes.{accepted}
@@ -23,7 +23,7 @@ use Rattle.os2.proofs.Accepting.{open-lies}
 use Rattle.os2.specs.Writing.{numberFor, fits, codeFor, misfit, lowestMisfit, image, InVersion}
 use Rattle.os2.proofs.Codes.{code-small}
 use Rattle.os2.proofs.RoundTrips.{no-misfit}
-use Rattle.os2_writer.specs.Storing.{Sound, Storable, WordFor, Fitting}
+use Rattle.os2_writer.specs.Storing.{Storable, WordFor, Fitting}
 use Rattle.os2.proofs.Images.{image-lacks}
 
 -- ---- a field of the catalogue
@@ -31,9 +31,6 @@ use Rattle.os2.proofs.Images.{image-lacks}
 pub entry-is : (fs : List Field) (k : ℕ) → fs ≡ catalogue → getD fs k (plain 0 0 0) ≡ fieldOf k
 unfolding fieldOf
 entry-is fs k e = rw e
-
-pub sound : (k : ℕ) → k < 48 → Sound (fieldOf k)
-sound k h = record { wide = width-is k h; signs = sign-width k h }
 
 since-most : (k : ℕ) → k < 48 → fieldOf k .since ≤ 5
 unfolding fieldOf catalogue
@@ -53,7 +50,7 @@ module _ (v : ℕ) (xs : List ℤ) (fit : Fitting v xs) where
   pub storable : (room : List ℕ) → tableSize v ≤ length room → (k : ℕ) → k < 48 → fieldOf k .since ≤ v → Storable room (fieldOf k) (codeFor xs k)
   storable room l k h s =
       record {
-        sound = sound k h;
+        sound = sound-is k h;
         inside = le-trans (inside k v h s) l;
         small = code-small (fieldOf k) (numberFor xs k) (fit-at k h s);
       }

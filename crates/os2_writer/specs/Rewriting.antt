@@ -8,14 +8,9 @@ use lib.IntN.{ℤ}
 use Rattle.level.specs.Sizes.{tableSize}
 use Rattle.os2_fields.specs.Catalogue.{fieldOf}
 use Rattle.os2_fields.specs.Fields.{valueIn, version}
-use Rattle.os2.specs.Outcomes.{Outcome, refused, answered, unless}
+use Rattle.os2.specs.Outcomes.{Outcome, answered, unless, passing}
 use Rattle.os2.specs.Acceptance.{checked}
 use Rattle.os2.specs.Writing.{numberFor, InVersion, whereWritten}
-
--- the refusal, or else what comes after it in the order
-abbrev pub passing : {A B : Type 0} → Outcome A → Outcome B → Outcome B
-passing (refused n c) o = refused n c
-passing (answered x) o = o
 
 -- the reader's refusals at level 5, which are 2 and 3, then the writer's 4 and 5; 8 and 3 cannot follow. r is the length of the room
 unfoldable pub rewritten : List ℕ → ℕ → Outcome ℕ

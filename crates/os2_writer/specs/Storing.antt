@@ -1,7 +1,6 @@
 -- What the functions that test and store one field, or all of them, ask.
 use Prim.Native.Nat.{ℕ, _+_, _^_, _<_, _≤_}
 use mathlib.Core.Path.{_≡_}
-use mathlib.Core.Logic.{_⊎_}
 use mathlib.Core.Bool.{true, false, cond}
 use mathlib.Core.Option.{Option, none, some}
 use mathlib.Core.List.{List}
@@ -11,16 +10,8 @@ use lib.IntN.{ℤ}
 use Rattle.level.specs.Sizes.{tableSize}
 use Rattle.os2_fields.specs.declared.catalogue.Field.{Field}
 use Rattle.os2_fields.specs.Catalogue.{fieldOf}
+use Rattle.os2_fields.specs.Reading.{Sound}
 use Rattle.os2.specs.Writing.{numberFor, fits, lowestMisfit}
-
--- a width of 1, 2 or 4 bytes
-abbrev pub Wide : ℕ → Type 0
-Wide n = (n ≡ 1) ⊎ ((n ≡ 2) ⊎ (n ≡ 4))
-
--- a field as the catalogue has them: 1, 2 or 4 bytes, and 2 where it is signed
-pub record Sound (f : Field) : Type 0 where
-  pub wide : Wide (f .width)
-  pub signs : f .signed ≡ true → f .width ≡ 2
 
 -- a number of a field's width, and room for it
 pub record Storable (room : List ℕ) (f : Field) (code : ℕ) : Type 0 where

@@ -11,7 +11,8 @@ use lib.ListN.{length, drop}
 use lib.Seq.{drop-nil}
 use Rattle.characters.specs.Strings.{char}
 use Rattle.characters.proofs.Laws.{char-within}
-use Rattle.version_text.specs.Versions.{digit, digits, groupEnd, longer, figure, groupFigure}
+use Rattle.characters.specs.Digits.{longer}
+use Rattle.version_text.specs.Versions.{digit, digits, groupEnd, figure, groupFigure}
 use Rattle.version_text.proofs.Tests.{digit-range}
 
 -- a digit stands within the text, and so does a period
@@ -50,7 +51,7 @@ reading-none l s h =
     record { low = omega arith; high = h; left = refl; held = rw e }
 
 pub reading-more : (l : List ℕ) (s j a : ℕ) → digit (char l j) ≡ true → Reading l s j a → Reading l s (j + 1) (min 65535 (longer a (char l j)))
-unfolding groupEnd figure longer
+unfolding groupEnd figure
 reading-more l s j a d r =
     let e : (j + 1) - s ≡ suc (j - s) = omega arith in
     let f : s + (j - s) ≡ j = omega arith in

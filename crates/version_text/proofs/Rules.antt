@@ -12,7 +12,8 @@ use borrow.Author.Tests.{not-true, ltb-true, eqb-true, eq-eqb}
 use Rattle.characters.specs.Strings.{characters, char, odd}
 use Rattle.characters.proofs.Laws.{char-within, char-pairs, length-pairs}
 use Rattle.version_text.specs.Versions.{digit, period, digits, groupEnd, figure, groupFigure, small, mayStart, isNumber, numberAt, firstOf, versionIn, Said, number, refusal, said}
-use Rattle.version_text.specs.Qualifying.{Digit, Group, Qualifies, First, Odd, Right, HighByteZero}
+use Rattle.characters.specs.Digits.{Digit}
+use Rattle.version_text.specs.Qualifying.{Group, Qualifies, First, Odd, Right, HighByteZero}
 use Rattle.version_text.specs.declared.Version.{Version}
 use Rattle.version_text.specs.declared.Version.the-variants.{Number, NoNumber}
 use Rattle.version_text.proofs.Tests.{all-true, digit-range, digit-is, digit-not}

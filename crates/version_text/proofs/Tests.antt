@@ -10,7 +10,7 @@ use lib.Dec.{leb}
 use borrow.Author.Tests.{leb-true, le-leb}
 use Rattle.characters.specs.Strings.{char}
 use Rattle.version_text.specs.Versions.{digit, mayStart}
-use Rattle.version_text.specs.Qualifying.{Digit}
+use Rattle.characters.specs.Digits.{Digit}
 
 pub all-true : (a b c d e : Bool) → (a && b && c && d && e) ≡ true → (a ≡ true) × ((b ≡ true) × ((c ≡ true) × ((d ≡ true) × (e ≡ true))))
 all-true a b c d e h =

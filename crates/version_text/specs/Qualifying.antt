@@ -5,12 +5,9 @@ use mathlib.Core.Bool.{Bool, true}
 use mathlib.Core.List.{List}
 use mathlib.Core.Logic.{_↔_, _⊎_}
 use lib.ListN.{length, getD}
+use Rattle.characters.specs.Digits.{Digit}
 use Rattle.characters.specs.Strings.{characters, char}
 use Rattle.version_text.specs.Versions.{figure, Said, number, refusal}
-
--- 0 to 9
-abbrev pub Digit : ℕ → Type 0
-Digit c = (48 ≤ c) × (c ≤ 57)
 
 -- the characters from i to before j are digits, at least one and as long as they go, and their figure is a, below 65,535
 pub record Group (l : List ℕ) (i j a : ℕ) : Type 0 where

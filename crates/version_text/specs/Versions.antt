@@ -1,9 +1,10 @@
 -- Document 01, "PostScript name and version number": the version number in the characters of a string.
-use Prim.Native.Nat.{ℕ, zero, suc, _+_, _*_, _-_}
+use Prim.Native.Nat.{ℕ, zero, suc, _+_}
 use mathlib.Core.Bool.{Bool, cond, not, _&&_}
 use mathlib.Core.List.{List, [], _∷_}
 use lib.Dec.{leb, ltb, eqb}
 use lib.ListN.{length, drop}
+use Rattle.characters.specs.Digits.{longer}
 use Rattle.characters.specs.Strings.{characters, char, odd}
 use Rattle.version_text.specs.declared.Version.{Version}
 use Rattle.version_text.specs.declared.Version.the-variants.{Number, NoNumber}
@@ -23,10 +24,6 @@ digits (c ∷ cs) = cond (digit c) (suc (digits cs)) 0
 -- the place after the digits that start at i
 unfoldable pub groupEnd : List ℕ → ℕ → ℕ
 groupEnd l i = i + digits (drop i l)
-
--- a figure with one digit more
-unfoldable pub longer : ℕ → ℕ → ℕ
-longer a c = a * 10 + (c - 48)
 
 -- the figure of n digits that start at i; leading zeros are allowed
 unfoldable pub figure : List ℕ → ℕ → ℕ → ℕ

@@ -4,7 +4,8 @@ ghost use mathlib.Core.Path.{_≡_};
 ghost use mathlib.Core.Bool.{true};
 ghost use Prim.Native.Nat.{_≤_, min};
 ghost use Rattle.characters.specs.Strings.{characters, char};
-ghost use Rattle.version_text.specs.Versions.{digit, mayStart, longer, versionIn};
+ghost use Rattle.characters.specs.Digits.{longer};
+ghost use Rattle.version_text.specs.Versions.{digit, mayStart, versionIn};
 
 // The version number of a string.
 pub enum Version {

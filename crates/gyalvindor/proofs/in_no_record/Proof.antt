@@ -1,6 +1,5 @@
 -- The table's refusal is passed on, and else no record has the key.
 -- Assumes nothing.
-use Rattle.name_lookup.specs.Answers.{afterCheck}
 use borrow.Author.Needs.{needs}
 use Rattle.gyalvindor.proofs.in_no_record.Statement.{statement}
 use Rattle.gyalvindor.proofs.in_no_record.Tie as tie
@@ -15,11 +14,9 @@ enum-known-why : tie.Need-enum-known-why
 enum-known-why c = search needs
 
 returns : tie.Need-returns
-unfolding afterCheck
 returns c = rw (← c .before .before .check .ensures, c .enum-told .given .1)
 
 returns-2 : tie.Need-returns-2
-unfolding afterCheck
 returns-2 c = rw (← c .before .before .before .check .ensures, c .before .why .given .1)
 
 pub in-no-record-spec : {M : Type 1} → statement M

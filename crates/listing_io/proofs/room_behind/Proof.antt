@@ -3,6 +3,8 @@
 use mathlib.Core.Path.{sym}
 use native.Mathlib.Omega.{arith}
 use lib.Seq.{length-take-le}
+use Rattle.listing_io.specs.Inputs.{behind}
+use borrow.Author.Tests.{lt-ltb, le-ltb}
 use borrow.Author.Needs.{needs}
 use Rattle.listing_io.proofs.room_behind.Statement.{statement}
 use Rattle.listing_io.proofs.room_behind.Tie as tie
@@ -17,10 +19,12 @@ write-requires : tie.Need-write-requires
 write-requires c κs = search needs
 
 returns : tie.Need-returns
-returns c = search needs
+unfolding behind
+returns c = (search needs, search (needs, lt-ltb, le-ltb))
 
 returns-2 : tie.Need-returns-2
-returns-2 c = search needs
+unfolding behind
+returns-2 c = (search needs, search (needs, lt-ltb, le-ltb))
 
 pub room-behind-spec : {M : Type 1} → statement M
 room-behind-spec =

@@ -29,10 +29,10 @@ returns-2 : tie.Need-returns-2
 returns-2 c = c .read-u16 .ensures ∙ sym (raw-word _ _ (c .before .if2 .taken))
 
 read-u32-requires : tie.Need-read-u32-requires
-read-u32-requires c κs = omega (arith, four (c .before .before .before .before .pre .wide) (c .before .if1 .left) (c .if2 .left))
+read-u32-requires c κs = omega (arith, four (c .before .before .before .before .pre .sound .wide) (c .before .if1 .left) (c .if2 .left))
 
 returns-3 : tie.Need-returns-3
-returns-3 c = c .read-u32 .ensures ∙ sym (raw-long _ _ (four (c .before .before .before .before .before .pre .wide) (c .before .before .if1 .left) (c .before .if2 .left)))
+returns-3 c = c .read-u32 .ensures ∙ sym (raw-long _ _ (four (c .before .before .before .before .before .pre .sound .wide) (c .before .before .if1 .left) (c .before .if2 .left)))
 
 pub number-spec : {M : Type 1} → statement M
 number-spec =

@@ -24,7 +24,7 @@ word-requires c κs =
     let five : 5 ≤ fields.version (c .before .before .before .args .table .now) = omega (arith, c .if1 .left, c .before .version .ensures) in
     let long : tableSize 5 ≤ length (c .before .before .before .args .table .now) = le-trans (size-rises 5 _ five) (given .sized) in
     record {
-      lies = record { inside = omega (arith, given .inside, given .two, long); wide = inr (inl (given .two)); signs = λ e. given .two };
+      lies = record { inside = omega (arith, given .inside, given .two, long); sound = record { wide = inr (inl (given .two)); signs = λ e. given .two } };
       two = given .two;
     }
 

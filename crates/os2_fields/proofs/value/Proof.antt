@@ -14,13 +14,13 @@ cast-at : tie.Need-cast-at
 cast-at c = search needs
 
 read-u16-requires : tie.Need-read-u16-requires
-read-u16-requires c κs = omega (arith, c .before .before .before .pre .signs (c .if1 .taken))
+read-u16-requires c κs = omega (arith, c .before .before .before .pre .sound .signs (c .if1 .taken))
 
 signed-requires : tie.Need-signed-requires
 signed-requires c κs = search needs
 
 returns : tie.Need-returns
-returns c = toZ-ofZ (search needs) ∙ (c .signed .ensures ∙ (ap (signedOf 2) (c .before .read-u16 .ensures) ∙ sym (value-signed _ _ (c .before .before .if1 .taken) (c .before .before .before .before .before .pre .signs (c .before .before .if1 .taken)))))
+returns c = toZ-ofZ (search needs) ∙ (c .signed .ensures ∙ (ap (signedOf 2) (c .before .read-u16 .ensures) ∙ sym (value-signed _ _ (c .before .before .if1 .taken) (c .before .before .before .before .before .pre .sound .signs (c .before .before .if1 .taken)))))
 
 number-requires : tie.Need-number-requires
 number-requires c κs = search needs

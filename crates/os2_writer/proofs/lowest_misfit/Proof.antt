@@ -7,7 +7,8 @@ use mir.Val.{SFits}
 use native.Mathlib.Numerals.{add-one}
 use Rattle.os2.specs.Writing.{numberFor, misfit, lowestMisfit}
 use Rattle.os2_writer.proofs.Signs.{kept}
-use Rattle.os2_writer.proofs.Steps.{entry-is, sound, misfit-next, misfit-found}
+use Rattle.os2_fields.proofs.Tiling.{sound-is}
+use Rattle.os2_writer.proofs.Steps.{entry-is, misfit-next, misfit-found}
 use Prim.Native.Nat.{_-_, _≤_}
 use mathlib.Core.Path.{_≡_, refl, sym, _∙_}
 use mathlib.Core.Option.{none}
@@ -48,7 +49,7 @@ shared-slice-copy-out-misfits : tie.Need-shared-slice-copy-out-misfits Inv-loop 
 shared-slice-copy-out-misfits c = search needs
 
 misfits-requires : tie.Need-misfits-requires Inv-loop μ-loop
-misfits-requires c κs = rw (entry-is _ (c .before .before .before .loop .k) (c .before .before .before .before .entries .ensures)) (sound _ (omega arith))
+misfits-requires c κs = rw (entry-is _ (c .before .before .before .loop .k) (c .before .before .before .before .entries .ensures)) (sound-is _ (omega arith))
 
 returns : tie.Need-returns Inv-loop μ-loop
 returns c = rw (lt-ltb (c .before .before .before .before .before .loop .k) 48 (omega arith)) (sym (misfit-found _ _ (c .before .before .before .before .before .loop .k) (omega arith) (c .before .before .before .before .before .loop .inv .1) (sym (test (c .before)) ∙ c .if1 .taken)))

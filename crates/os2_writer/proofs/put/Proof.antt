@@ -1,6 +1,7 @@
 -- Each width has its own store.
 -- Assumes nothing.
-use Rattle.os2_writer.proofs.Signs.{four, stored-1}
+use Rattle.os2_writer.proofs.Signs.{stored-1}
+use Rattle.os2_fields.proofs.Laws.{four}
 use borrow.Author.Needs.{needs}
 use Rattle.os2_writer.proofs.put.Statement.{statement}
 use Rattle.os2_writer.proofs.put.Tie as tie

@@ -10,7 +10,8 @@ use borrow.Author.Needs.{needs}
 use native.Mathlib.Numerals.{add-one}
 use Rattle.os2.proofs.Images.{image-has, image-length}
 use Rattle.os2_writer.proofs.Signs.{kept}
-use Rattle.os2_writer.proofs.Steps.{entry-is, sound, fit-at, storable, image-stop}
+use Rattle.os2_fields.proofs.Tiling.{sound-is}
+use Rattle.os2_writer.proofs.Steps.{entry-is, fit-at, storable, image-stop}
 use Prim.Native.Nat.{ℕ, suc, _-_, _≤_}
 use mathlib.Core.Path.{_≡_, refl, sym, _∙_}
 use native.Mathlib.Omega.{arith}
@@ -71,7 +72,7 @@ shared-slice-copy-out-code : tie.Need-shared-slice-copy-out-code Inv-loop μ-loo
 shared-slice-copy-out-code c = search needs
 
 code-requires : tie.Need-code-requires Inv-loop μ-loop
-code-requires c κs = let e = c .before .before in let g : SFits w64 (numberFor (e .before .before .before .before .before .before .before .args .numbers .now) (e .before .before .before .before .loop .k)) = record { sfits = c .code-arg .given } in rw (kept _ g, entry-is _ (e .before .before .before .before .loop .k) (e .before .before .before .before .before .entries .ensures)) (sound _ (omega arith), fit-at _ _ (e .before .before .before .before .before .before .before .pre .fit) _ (omega arith) (here e))
+code-requires c κs = let e = c .before .before in let g : SFits w64 (numberFor (e .before .before .before .before .before .before .before .args .numbers .now) (e .before .before .before .before .loop .k)) = record { sfits = c .code-arg .given } in rw (kept _ g, entry-is _ (e .before .before .before .before .loop .k) (e .before .before .before .before .before .entries .ensures)) (sound-is _ (omega arith), fit-at _ _ (e .before .before .before .before .before .before .before .pre .fit) _ (omega arith) (here e))
 
 put-requires : tie.Need-put-requires Inv-loop μ-loop
 put-requires c κs = let e = c .before .before .before in let k : ℕ = e .before .before .before .before .loop .k in let s = e .before .before .before .before .before .before .before in let l = e .before .before .before .before .loop in let g : SFits w64 (numberFor (s .args .numbers .now) k) = record { sfits = c .before .code-arg .given } in rw (c .code .ensures, kept _ g, entry-is _ k (e .before .before .before .before .before .entries .ensures)) (storable _ _ (s .pre .fit) (l .room) (rw (l .inv .1) (s .pre .long)) k (omega arith) (here e))

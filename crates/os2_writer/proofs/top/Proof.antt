@@ -1,6 +1,6 @@
 -- By the three widths.
 -- Assumes nothing.
-use Rattle.os2_writer.proofs.Signs.{four}
+use Rattle.os2_fields.proofs.Laws.{four}
 use Rattle.os2_writer.proofs.top.Statement.{statement}
 use Rattle.os2_writer.proofs.top.Tie as tie
 

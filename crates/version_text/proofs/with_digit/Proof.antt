@@ -1,7 +1,6 @@
 -- A figure held at 65,535 and one more digit stay far below what a u32 holds.
 -- Assumes nothing.
 use native.Mathlib.Omega.{arith}
-use Rattle.version_text.specs.Versions.{longer}
 use Rattle.version_text.proofs.Tests.{digit-range}
 use borrow.Author.Needs.{needs}
 use Rattle.version_text.proofs.with_digit.Statement.{statement}
@@ -20,11 +19,9 @@ add-value : tie.Need-add-value
 add-value c = search needs
 
 returns : tie.Need-returns
-unfolding longer
 returns c = omega arith
 
 returns-2 : tie.Need-returns-2
-unfolding longer
 returns-2 c = omega arith
 
 pub with-digit-spec : {M : Type 1} → statement M
