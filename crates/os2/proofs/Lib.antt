@@ -4,7 +4,6 @@ pub mod Asked
 pub mod Settling
 pub mod Agreeing
 pub mod Trimming
-pub mod Starred
 pub mod Saying
 pub mod Codes
 pub mod Images
