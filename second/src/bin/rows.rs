@@ -11,6 +11,9 @@
 //! - `= os2` with a length: zero bytes but weight 400, width 5, and then pairs of an offset and the
 //!   16-bit number that stands there. Its questions are document 01's, as `field 39 at level 5`, and
 //!   `check at level 5`. A field's or a bit's value is decimal, or `negative`; a float is its bits.
+//!
+//! With the argument `versions` each line is a version text, and is printed with what it reads; behind
+//! them stands the text of 65,535 sevens. So are the rows of the program `version_rows` made.
 
 #![forbid(unsafe_code)]
 
@@ -28,6 +31,13 @@ enum Table {
 fn main() -> io::Result<()> {
     let mut text = String::new();
     io::stdin().read_to_string(&mut text)?;
+    if std::env::args().nth(1).as_deref() == Some("versions") {
+        for line in text.lines() {
+            println!("`{line}` version {}", version_text(line));
+        }
+        println!("65,535 sevens version {}", version_text(&"7".repeat(65535)));
+        return Ok(());
+    }
     let mut table = Table::Name(Vec::new());
     for line in text.lines() {
         if let Some(words) = line.strip_prefix("= ") {
@@ -39,6 +49,14 @@ fn main() -> io::Result<()> {
         }
     }
     Ok(())
+}
+
+fn version_text(text: &str) -> String {
+    let characters: Vec<u16> = text.bytes().map(u16::from).collect();
+    match name::version_in(&characters) {
+        None => "refused 25".to_string(),
+        Some(version) => format!("{} {}", version.major, version.minor),
+    }
 }
 
 /// The table of a line.

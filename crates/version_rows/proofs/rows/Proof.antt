@@ -5,8 +5,8 @@ use borrow.Author.Needs.{needs}
 use native.Mathlib.Omega.{arith}
 use lib.ListN.{length}
 use mathlib.Core.Logic.{⊎-elim}
-use Rattle.version_rows.proofs.narrow_rows.Statement.{statement}
-use Rattle.version_rows.proofs.narrow_rows.Tie as tie
+use Rattle.version_rows.proofs.rows.Statement.{statement}
+use Rattle.version_rows.proofs.rows.Tie as tie
 
 abbrev Inv-loop : tie.InvT-loop
 Inv-loop lines start₀ at₀ start at = (start ≤ at) × (at ≤ length lines)
@@ -20,17 +20,17 @@ loop-holds c = search needs
 shared-slice-read-if1 : tie.Need-shared-slice-read-if1 Inv-loop μ-loop
 shared-slice-read-if1 c = search needs
 
-sub-narrow : tie.Need-sub-narrow Inv-loop μ-loop
-sub-narrow c = search needs
+sub-text-row : tie.Need-sub-text-row Inv-loop μ-loop
+sub-text-row c = search needs
 
-part-narrow-start : tie.Need-part-narrow-start Inv-loop μ-loop
-part-narrow-start c = search needs
+part-text-row-start : tie.Need-part-text-row-start Inv-loop μ-loop
+part-text-row-start c = search needs
 
-part-narrow-end : tie.Need-part-narrow-end Inv-loop μ-loop
-part-narrow-end c = search needs
+part-text-row-end : tie.Need-part-text-row-end Inv-loop μ-loop
+part-text-row-end c = search needs
 
-narrow-requires : tie.Need-narrow-requires Inv-loop μ-loop
-narrow-requires c κs = search needs
+text-row-requires : tie.Need-text-row-requires Inv-loop μ-loop
+text-row-requires c κs = search needs
 
 add-start : tie.Need-add-start Inv-loop μ-loop
 add-start c = search needs
@@ -47,18 +47,18 @@ loop-again c = ⊎-elim (λ w. omega arith) (λ w. omega arith) (c .if1 .came)
 returns : tie.Need-returns Inv-loop μ-loop
 returns c = search needs
 
-pub narrow-rows-spec : {M : Type 1} → statement M
-narrow-rows-spec =
+pub rows-spec : {M : Type 1} → statement M
+rows-spec =
     tie.close
     (tie.spec
     Inv-loop
     μ-loop
     loop-holds
     shared-slice-read-if1
-    sub-narrow
-    part-narrow-start
-    part-narrow-end
-    narrow-requires
+    sub-text-row
+    part-text-row-start
+    part-text-row-end
+    text-row-requires
     add-start
     add-at
     loop-less
