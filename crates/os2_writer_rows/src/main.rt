@@ -1,5 +1,6 @@
 // Runs the writer: each version written, read back and rewritten, and each refusal of the writer and of rewriting.
 // A room is lent filled with 170. A row ends with the room's first byte and, of a room of 101 bytes, its last, which no table reaches.
+// The stored output is made by the second program, `writer_rows`.
 use libc::STDOUT_FILENO;
 use os2::Answer;
 use os2::Refusal;

@@ -11,7 +11,6 @@ use Rattle.os2_rules.specs.Bits.{bit, bits}
 use Rattle.os2_rules.specs.Tests.{weightBroken, widthBroken, typeBroken, rightsBroken, selectionBroken, regularBroken, sizesBroken, verdictOf}
 use Rattle.os2_fields.specs.Catalogue.{catalogue, fieldOf}
 use Rattle.os2_fields.specs.Fields.{rawIn, valuesOf}
-use Rattle.os2.specs.Outcomes.{Outcome}
 use Rattle.os2.specs.Acceptance.{underTwo, underSize, short, ruling, judged, checked}
 use Rattle.os2.specs.Questions.{outOfRange, since, onWhole}
 use Rattle.os2.specs.Asking.{valueOf, above, given, opened, ask}
@@ -20,7 +19,7 @@ use Rattle.name.specs.Acceptance.{_then_, when, firstOf, tooShort, otherFormat,
 use Rattle.name_lookup.specs.Answers.{recordOf, answerOf, afterCheck, lookupOf}
 use Rattle.name_lookup.specs.Scans.{scan}
 use Rattle.version_text.specs.Versions as text
-use Rattle.worked_examples.specs.Rows.{Given, Row, rows, found, said}
+use Rattle.worked_examples.specs.Rows.{Found, Row, rows, found, said}
 
 module _ (p e l n : ℕ) where
   -- each row by itself
@@ -30,7 +29,7 @@ module _ (p e l n : ℕ) where
 
   together : (rs : List Row) → Each rs → map (found p e l n) rs ≡ map said rs
   together [] h = refl
-  together (r ∷ rs) h = ap (λ (x : List (Outcome Given)). x ∷ map (found p e l n) rs) (h .0) ∙ ap (λ (xs : List (List (Outcome Given))). said r ∷ xs) (together rs (h .1))
+  together (r ∷ rs) h = ap (λ (x : List Found). x ∷ map (found p e l n) rs) (h .0) ∙ ap (λ (xs : List (List Found)). said r ∷ xs) (together rs (h .1))
 
 pub starred : (p e l n : ℕ) → map (found p e l n) rows ≡ map said rows
 unfolding number stored char odd tableSize bit bits weightBroken widthBroken typeBroken rightsBroken selectionBroken regularBroken sizesBroken verdictOf catalogue fieldOf rawIn underTwo underSize short valuesOf ruling judged checked outOfRange since onWhole valueOf above given opened ask tagCount tagsAt _then_ when firstOf tooShort otherFormat recordsPass tagsPass misplaced layoutFault checkOf recordOf answerOf afterCheck lookupOf scan text.versionIn text.firstOf text.numberAt text.isNumber text.mayStart text.small text.groupFigure text.figure text.longer text.groupEnd text.digits text.period text.digit

@@ -67,7 +67,9 @@ fn read(words: &str) -> Table {
     if let Some(digits) = words.strip_prefix("name ") {
         return Table::Name(hexadecimal(digits));
     }
-    let numbers = words.strip_prefix("os2 ").expect("a table is `name` or `os2`");
+    let numbers = words
+        .strip_prefix("os2 ")
+        .expect("a table is `name` or `os2`");
     Table::Os2(table_of(&decimals(numbers)))
 }
 
@@ -196,7 +198,11 @@ fn rights(value: Rights) -> String {
 }
 
 fn style(value: StylePosition) -> String {
-    format!("weight {} width {}", bits(value.weight), bits(value.width_percent))
+    format!(
+        "weight {} width {}",
+        bits(value.weight),
+        bits(value.width_percent)
+    )
 }
 
 fn optical(value: OpticalSizes) -> String {
