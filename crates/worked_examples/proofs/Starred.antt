@@ -16,7 +16,7 @@ use Rattle.os2.specs.Questions.{outOfRange, since, onWhole}
 use Rattle.os2.specs.Asking.{valueOf, above, given, opened, ask}
 use Rattle.name.specs.Layout.{tagCount, tagsAt}
 use Rattle.name.specs.Acceptance.{_then_, when, firstOf, tooShort, otherFormat, recordsPass, tagsPass, misplaced, layoutFault, checkOf}
-use Rattle.name_lookup.specs.Answers.{recordOf, answerOf, afterCheck, lookupOf}
+use Rattle.name_lookup.specs.Answers.{recordOf, answerOf, lookupOf}
 use Rattle.name_lookup.specs.Scans.{scan}
 use Rattle.version_text.specs.Versions as text
 use Rattle.worked_examples.specs.Rows.{Found, Row, rows, found, said}
@@ -32,5 +32,5 @@ module _ (p e l n : ℕ) where
   together (r ∷ rs) h = ap (λ (x : List Found). x ∷ map (found p e l n) rs) (h .0) ∙ ap (λ (xs : List (List Found)). said r ∷ xs) (together rs (h .1))
 
 pub starred : (p e l n : ℕ) → map (found p e l n) rows ≡ map said rows
-unfolding number stored char odd tableSize bit bits weightBroken widthBroken typeBroken rightsBroken selectionBroken regularBroken sizesBroken verdictOf catalogue fieldOf rawIn underTwo underSize short valuesOf ruling judged checked outOfRange since onWhole valueOf above given opened ask tagCount tagsAt _then_ when firstOf tooShort otherFormat recordsPass tagsPass misplaced layoutFault checkOf recordOf answerOf afterCheck lookupOf scan text.versionIn text.firstOf text.numberAt text.isNumber text.mayStart text.small text.groupFigure text.figure text.longer text.groupEnd text.digits text.period text.digit
+unfolding number stored char odd tableSize bit bits weightBroken widthBroken typeBroken rightsBroken selectionBroken regularBroken sizesBroken verdictOf catalogue fieldOf rawIn underTwo underSize short valuesOf ruling judged checked outOfRange since onWhole valueOf above given opened ask tagCount tagsAt _then_ when firstOf tooShort otherFormat recordsPass tagsPass misplaced layoutFault checkOf recordOf answerOf lookupOf scan text.versionIn text.firstOf text.numberAt text.isNumber text.mayStart text.small text.groupFigure text.figure text.groupEnd text.digits text.period text.digit
 starred p e l n = together p e l n rows (refl, (refl, (refl, (refl, (refl, (refl, (refl, (refl, (refl, (refl, (refl, tt)))))))))))
