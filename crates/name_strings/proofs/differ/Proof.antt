@@ -27,7 +27,7 @@ sized : (c : tie.Else1 Inv-loop μ-loop) →
 sized c =
     let a = c .before .before .before .before .before .args in
     let e : length (now (a .first)) ≡ length (characters true (now (a .second))) =
-        sym (c .before .count2 .ensures) ∙ c .if1 .left ∙ c .before .before .count .ensures in
+    sym (c .before .count2 .ensures) ∙ c .if1 .left ∙ c .before .before .count .ensures in
     rw (c .before .before .count .ensures) (differ-sized _ _ e)
 
 count-requires : tie.Need-count-requires Inv-loop μ-loop
