@@ -86,7 +86,8 @@ pub fn entry(k: usize) -> Field
     requires { ⌜ k < 48 ⌝ }
     ensures { λ r. ⌜ r ≡ fieldOf k ⌝ }
 {
-    FIELDS[k]
+    let fields = entries();
+    fields[k]
 }
 
 // The whole catalogue, for a loop over the fields.
