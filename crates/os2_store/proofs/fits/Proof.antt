@@ -1,8 +1,8 @@
 -- The two tests are the definition's, by the field's sign.
 -- Assumes nothing.
-use Rattle.os2_writer.proofs.Signs.{kept, top-fits, fits-signed, under-signed, fits-plain, under-plain}
-use Rattle.os2_writer.proofs.fits.Statement.{statement}
-use Rattle.os2_writer.proofs.fits.Tie as tie
+use Rattle.os2_store.proofs.Signs.{kept, top-fits, fits-signed, under-signed, fits-plain, under-plain}
+use Rattle.os2_store.proofs.fits.Statement.{statement}
+use Rattle.os2_store.proofs.fits.Tie as tie
 
 returns : tie.Need-returns
 returns c = rw (kept _ (c .before .before .fits .x)) (fits-signed _ (c .before .if1 .taken) (c .before .before .pre .signs (c .before .if1 .taken)) _ (rw (kept _ (c .before .before .fits .x)) at (c .if2 .taken)))

@@ -2,7 +2,7 @@
 use Prim.Native.Nat.{ℕ, _+_, _^_, _<_, _≤_}
 use mathlib.Core.Path.{_≡_}
 use mathlib.Core.Logic.{_⊎_}
-use mathlib.Core.Bool.{true, false, cond}
+use mathlib.Core.Bool.{true, cond}
 use mathlib.Core.Option.{Option, none, some}
 use mathlib.Core.List.{List}
 use lib.Dec.{ltb}
@@ -10,8 +10,7 @@ use lib.ListN.{length}
 use lib.IntN.{ℤ}
 use Rattle.level.specs.Sizes.{tableSize}
 use Rattle.os2_fields.specs.declared.catalogue.Field.{Field}
-use Rattle.os2_fields.specs.Catalogue.{fieldOf}
-use Rattle.os2.specs.Writing.{numberFor, fits, lowestMisfit}
+use Rattle.os2.specs.Writing.{lowestMisfit}
 
 -- a width of 1, 2 or 4 bytes
 abbrev pub Wide : ℕ → Type 0
@@ -27,13 +26,6 @@ pub record Storable (room : List ℕ) (f : Field) (code : ℕ) : Type 0 where
   pub sound : Sound f
   pub inside : f .offset + f .width ≤ length room
   pub small : code < 256 ^ f .width
-
--- the number for field k is one of an unsigned field of two bytes, and fits it
-pub record WordFor (xs : List ℤ) (k : ℕ) : Type 0 where
-  pub within : k < length xs
-  pub plain : fieldOf k .signed ≡ false
-  pub two : fieldOf k .width ≡ 2
-  pub fit : fits (fieldOf k) (numberFor xs k) ≡ true
 
 -- the numbers of a version that is one fit their fields
 pub record Fitting (v : ℕ) (xs : List ℤ) : Type 0 where

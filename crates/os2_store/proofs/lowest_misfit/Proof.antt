@@ -6,14 +6,14 @@ use mir.Syntax.{w64}
 use mir.Val.{SFits}
 use native.Mathlib.Numerals.{add-one}
 use Rattle.os2.specs.Writing.{numberFor, misfit, lowestMisfit}
-use Rattle.os2_writer.proofs.Signs.{kept}
-use Rattle.os2_writer.proofs.Steps.{entry-is, sound, misfit-next, misfit-found}
+use Rattle.os2_store.proofs.Signs.{kept}
+use Rattle.os2_store.proofs.Steps.{entry-is, sound, misfit-next, misfit-found}
 use Prim.Native.Nat.{_-_, _≤_}
 use mathlib.Core.Path.{_≡_, refl, sym, _∙_}
 use mathlib.Core.Option.{none}
 use native.Mathlib.Omega.{arith}
-use Rattle.os2_writer.proofs.lowest_misfit.Statement.{statement}
-use Rattle.os2_writer.proofs.lowest_misfit.Tie as tie
+use Rattle.os2_store.proofs.lowest_misfit.Statement.{statement}
+use Rattle.os2_store.proofs.lowest_misfit.Tie as tie
 
 abbrev Inv-loop : tie.InvT-loop
 Inv-loop numbers version fields k₀ k = (k ≤ 48) × (lowestMisfit version numbers k ≡ none)

@@ -9,13 +9,13 @@ use Rattle.os2_fields.specs.Catalogue.{fieldOf}
 use borrow.Author.Needs.{needs}
 use native.Mathlib.Numerals.{add-one}
 use Rattle.os2.proofs.Images.{image-has, image-length}
-use Rattle.os2_writer.proofs.Signs.{kept}
-use Rattle.os2_writer.proofs.Steps.{entry-is, sound, fit-at, storable, image-stop}
+use Rattle.os2_store.proofs.Signs.{kept}
+use Rattle.os2_store.proofs.Steps.{entry-is, sound, fit-at, storable, image-stop}
 use Prim.Native.Nat.{ℕ, suc, _-_, _≤_}
 use mathlib.Core.Path.{_≡_, refl, sym, _∙_}
 use native.Mathlib.Omega.{arith}
-use Rattle.os2_writer.proofs.store.Statement.{statement}
-use Rattle.os2_writer.proofs.store.Tie as tie
+use Rattle.os2_store.proofs.store.Statement.{statement}
+use Rattle.os2_store.proofs.store.Tie as tie
 
 abbrev Inv-loop : tie.InvT-loop
 Inv-loop numbers version room₀ fields k₀ room k = (k ≤ 48) × (length room ≡ length room₀) × (room ≡ image version numbers room₀ k)

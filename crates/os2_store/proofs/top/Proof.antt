@@ -1,8 +1,8 @@
 -- By the three widths.
 -- Assumes nothing.
-use Rattle.os2_writer.proofs.Signs.{four}
-use Rattle.os2_writer.proofs.top.Statement.{statement}
-use Rattle.os2_writer.proofs.top.Tie as tie
+use Rattle.os2_store.proofs.Signs.{four}
+use Rattle.os2_store.proofs.top.Statement.{statement}
+use Rattle.os2_store.proofs.top.Tie as tie
 
 returns : tie.Need-returns
 returns c = rw (c .if1 .taken)

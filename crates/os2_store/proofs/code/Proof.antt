@@ -3,9 +3,9 @@
 use mathlib.Core.Path.{_≡_, ap, _∙_}
 use lib.IntN.{pos, _+ℤ_, natAbs}
 use Rattle.os2.specs.Writing.{codeOf}
-use Rattle.os2_writer.proofs.Signs.{kept, small-fits, code-32, code-negative, code-positive}
-use Rattle.os2_writer.proofs.code.Statement.{statement}
-use Rattle.os2_writer.proofs.code.Tie as tie
+use Rattle.os2_store.proofs.Signs.{kept, small-fits, code-32, code-negative, code-positive}
+use Rattle.os2_store.proofs.code.Statement.{statement}
+use Rattle.os2_store.proofs.code.Tie as tie
 
 negative : (c : tie.Then1) → c .before .args .x +ℤ pos 65536 ≡ pos (codeOf (c .before .args .f) (c .before .args .x))
 negative c = code-negative _ (c .before .pre .0) _ (c .before .pre .1) (rw (kept _ (c .before .fits .x)) at (c .if1 .taken))

@@ -1,10 +1,10 @@
 -- The two tests are the definition's.
 -- Assumes nothing.
 use borrow.Author.Tests.{le-leb, lt-leb}
-use Rattle.os2_writer.proofs.Signs.{kept}
+use Rattle.os2_store.proofs.Signs.{kept}
 use borrow.Author.Needs.{needs}
-use Rattle.os2_writer.proofs.misfits.Statement.{statement}
-use Rattle.os2_writer.proofs.misfits.Tie as tie
+use Rattle.os2_store.proofs.misfits.Statement.{statement}
+use Rattle.os2_store.proofs.misfits.Tie as tie
 
 cast-since : tie.Need-cast-since
 cast-since c = search needs

@@ -1,9 +1,9 @@
 -- Each width has its own store.
 -- Assumes nothing.
-use Rattle.os2_writer.proofs.Signs.{four, stored-1}
+use Rattle.os2_store.proofs.Signs.{four, stored-1}
 use borrow.Author.Needs.{needs}
-use Rattle.os2_writer.proofs.put.Statement.{statement}
-use Rattle.os2_writer.proofs.put.Tie as tie
+use Rattle.os2_store.proofs.put.Statement.{statement}
+use Rattle.os2_store.proofs.put.Tie as tie
 
 cast-at : tie.Need-cast-at
 cast-at c = search needs
