@@ -7,11 +7,11 @@ use native.Mathlib.Omega.{arith}
 use lib.IntN.{natAbs}
 use Rattle.characters.specs.Texts.{codes}
 use Rattle.listing_lines.specs.Numerals.{decimal}
-use Rattle.os2_lines.specs.Figures.{signedText}
-use Rattle.os2_lines.proofs.Laws.{kept, put-as}
+use Rattle.os2_figures.specs.Figures.{signedText}
+use Rattle.os2_figures.proofs.Laws.{kept, put-as}
 use borrow.Author.Needs.{needs}
-use Rattle.os2_lines.proofs.put_signed.Statement.{statement}
-use Rattle.os2_lines.proofs.put_signed.Tie as tie
+use Rattle.os2_figures.proofs.put_signed.Statement.{statement}
+use Rattle.os2_figures.proofs.put_signed.Tie as tie
 
 slice-aggregate-put-numbered : tie.Need-slice-aggregate-put-numbered
 slice-aggregate-put-numbered c = search needs

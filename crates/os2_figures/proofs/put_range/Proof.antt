@@ -3,11 +3,11 @@
 use mathlib.Core.Path.{sym, ap}
 use native.Mathlib.Omega.{arith}
 use Rattle.os2_style.specs.Style.{saidSizes}
-use Rattle.os2_lines.proofs.Laws.{put-as, put-both}
-use Rattle.os2_lines.specs.Figures.{sizesText}
+use Rattle.os2_figures.proofs.Laws.{put-as, put-both}
+use Rattle.os2_figures.specs.Figures.{sizesText}
 use borrow.Author.Needs.{needs}
-use Rattle.os2_lines.proofs.put_range.Statement.{statement}
-use Rattle.os2_lines.proofs.put_range.Tie as tie
+use Rattle.os2_figures.proofs.put_range.Statement.{statement}
+use Rattle.os2_figures.proofs.put_range.Tie as tie
 
 enum-told : tie.Need-enum-told
 enum-told c = search needs

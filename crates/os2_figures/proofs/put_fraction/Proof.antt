@@ -4,11 +4,11 @@ use mathlib.Core.Path.{refl, sym}
 use mathlib.Core.List.{append-nil}
 use native.Mathlib.Omega.{arith}
 use borrow.Author.Tests.{eq-eqb, ne-eqb}
-use Rattle.os2_lines.specs.Figures.{fraction}
-use Rattle.os2_lines.proofs.Laws.{put-as, put-both}
+use Rattle.os2_figures.specs.Figures.{fraction}
+use Rattle.os2_figures.proofs.Laws.{put-as, put-both}
 use borrow.Author.Needs.{needs}
-use Rattle.os2_lines.proofs.put_fraction.Statement.{statement}
-use Rattle.os2_lines.proofs.put_fraction.Tie as tie
+use Rattle.os2_figures.proofs.put_fraction.Statement.{statement}
+use Rattle.os2_figures.proofs.put_fraction.Tie as tie
 
 returns : tie.Need-returns
 unfolding fraction

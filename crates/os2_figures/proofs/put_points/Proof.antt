@@ -2,11 +2,11 @@
 -- Assumes nothing.
 use mathlib.Core.Path.{refl}
 use native.Mathlib.Omega.{arith}
-use Rattle.os2_lines.specs.Figures.{pointsText}
-use Rattle.os2_lines.proofs.Laws.{put-as, put-both}
+use Rattle.os2_figures.specs.Figures.{pointsText}
+use Rattle.os2_figures.proofs.Laws.{put-as, put-both}
 use borrow.Author.Needs.{needs}
-use Rattle.os2_lines.proofs.put_points.Statement.{statement}
-use Rattle.os2_lines.proofs.put_points.Tie as tie
+use Rattle.os2_figures.proofs.put_points.Statement.{statement}
+use Rattle.os2_figures.proofs.put_points.Tie as tie
 
 put-requires : tie.Need-put-requires
 put-requires c κs = search needs

@@ -6,10 +6,10 @@ use native.Mathlib.Omega.{arith}
 use lib.IntN.{pos, negsuc, natAbs, _-ℤ_}
 use mir.Syntax.{w64}
 use mir.Val.{SFits, toZ, ofZ}
-use Rattle.os2_lines.proofs.Laws.{kept, distance, below, from-zero}
+use Rattle.os2_figures.proofs.Laws.{kept, distance, below, from-zero}
 use borrow.Author.Needs.{needs}
-use Rattle.os2_lines.proofs.magnitude.Statement.{statement}
-use Rattle.os2_lines.proofs.magnitude.Tie as tie
+use Rattle.os2_figures.proofs.magnitude.Statement.{statement}
+use Rattle.os2_figures.proofs.magnitude.Tie as tie
 
 less : (c : tie.Then1) → (0 < natAbs (c .before .args .x)) × (negsuc 0 -ℤ toZ w64 (ofZ w64 (c .before .args .x)) ≡ pos (natAbs (c .before .args .x) - 1))
 less c = rw (kept _ (c .before .fits .x)) (below _ (c .before .fits .x) (rw (kept _ (c .before .fits .x)) at (c .if1 .taken)))

@@ -1,10 +1,10 @@
 -- The table in the code is the list of the definition.
 -- Assumes nothing.
 use mathlib.Core.Path.{refl}
-use Rattle.os2_lines.specs.Figures.{percentHundredths}
+use Rattle.os2_figures.specs.Figures.{percentHundredths}
 use borrow.Author.Needs.{needs}
-use Rattle.os2_lines.proofs.percent_hundredths.Statement.{statement}
-use Rattle.os2_lines.proofs.percent_hundredths.Tie as tie
+use Rattle.os2_figures.proofs.percent_hundredths.Statement.{statement}
+use Rattle.os2_figures.proofs.percent_hundredths.Tie as tie
 
 sub-i : tie.Need-sub-i
 sub-i c = search needs

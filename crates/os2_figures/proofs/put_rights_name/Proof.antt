@@ -4,11 +4,11 @@ use mathlib.Core.Path.{sym, ap}
 use native.Mathlib.Omega.{arith}
 use Rattle.os2_style.specs.declared.EmbeddingRights.{EmbeddingRights}
 use Rattle.os2_style.specs.Style.{rightsNumber}
-use Rattle.os2_lines.specs.Figures.{rightsText}
-use Rattle.os2_lines.proofs.Laws.{put-as}
+use Rattle.os2_figures.specs.Figures.{rightsText}
+use Rattle.os2_figures.proofs.Laws.{put-as}
 use borrow.Author.Needs.{needs}
-use Rattle.os2_lines.proofs.put_rights_name.Statement.{statement}
-use Rattle.os2_lines.proofs.put_rights_name.Tie as tie
+use Rattle.os2_figures.proofs.put_rights_name.Statement.{statement}
+use Rattle.os2_figures.proofs.put_rights_name.Tie as tie
 
 enum-told : tie.Need-enum-told
 enum-told c = search needs

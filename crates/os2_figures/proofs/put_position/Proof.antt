@@ -6,11 +6,11 @@ use Prim.Native.Nat.{ℕ}
 use native.Mathlib.Omega.{arith}
 use Rattle.characters.specs.Texts.{codes}
 use Rattle.listing_lines.specs.Numerals.{decimal}
-use Rattle.os2_lines.specs.Figures.{figure, positionText}
-use Rattle.os2_lines.proofs.Laws.{put-as, put-both}
+use Rattle.os2_figures.specs.Figures.{figure, positionText}
+use Rattle.os2_figures.proofs.Laws.{put-as, put-both}
 use borrow.Author.Needs.{needs}
-use Rattle.os2_lines.proofs.put_position.Statement.{statement}
-use Rattle.os2_lines.proofs.put_position.Tie as tie
+use Rattle.os2_figures.proofs.put_position.Statement.{statement}
+use Rattle.os2_figures.proofs.put_position.Tie as tie
 
 slice-aggregate-put-numbered : tie.Need-slice-aggregate-put-numbered
 slice-aggregate-put-numbered c = search needs
