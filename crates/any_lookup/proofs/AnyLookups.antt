@@ -25,7 +25,7 @@ use Rattle.name_lookup.specs.Exactly.{HasKey}
 use Rattle.name_lookup.specs.declared.Answer.the-variants.{NoRecord}
 use Rattle.name_lookup.specs.declared.Numbered.the-variants.{Text, Refusal}
 use Rattle.name_lookup.proofs.Theorems.{found-exactly-when, missing-exactly-when}
-use Rattle.gyalvindor.specs.Lookups.{beyond, anyBeyond, lookupAny, FoundByAny, MissingByAny}
+use Rattle.any_lookup.specs.Lookups.{beyond, anyBeyond, lookupAny, FoundByAny, MissingByAny}
 
 beyond-exactly : (x : ℕ) → (beyond x ≡ false) ↔ (x ≤ 65535)
 unfolding beyond

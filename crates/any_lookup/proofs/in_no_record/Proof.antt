@@ -2,8 +2,8 @@
 -- Assumes nothing.
 use Rattle.name_lookup.specs.Answers.{afterCheck}
 use borrow.Author.Needs.{needs}
-use Rattle.gyalvindor.proofs.in_no_record.Statement.{statement}
-use Rattle.gyalvindor.proofs.in_no_record.Tie as tie
+use Rattle.any_lookup.proofs.in_no_record.Statement.{statement}
+use Rattle.any_lookup.proofs.in_no_record.Tie as tie
 
 check-requires : tie.Need-check-requires
 check-requires c κs = search needs

@@ -1,9 +1,9 @@
 -- Each way is the definition at what the tests decide.
 -- Assumes nothing.
-use Rattle.gyalvindor.specs.Lookups.{anyBeyond}
+use Rattle.any_lookup.specs.Lookups.{anyBeyond}
 use borrow.Author.Needs.{needs}
-use Rattle.gyalvindor.proofs.any_beyond.Statement.{statement}
-use Rattle.gyalvindor.proofs.any_beyond.Tie as tie
+use Rattle.any_lookup.proofs.any_beyond.Statement.{statement}
+use Rattle.any_lookup.proofs.any_beyond.Tie as tie
 
 either-beyond-requires : tie.Need-either-beyond-requires
 either-beyond-requires c κs = search needs

@@ -1,9 +1,9 @@
 -- Each way is the definition at what the test decides.
 -- Assumes nothing.
 use Rattle.name.proofs.Layouts.{decided}
-use Rattle.gyalvindor.specs.Lookups.{beyond}
-use Rattle.gyalvindor.proofs.either_beyond.Statement.{statement}
-use Rattle.gyalvindor.proofs.either_beyond.Tie as tie
+use Rattle.any_lookup.specs.Lookups.{beyond}
+use Rattle.any_lookup.proofs.either_beyond.Statement.{statement}
+use Rattle.any_lookup.proofs.either_beyond.Tie as tie
 
 returns : tie.Need-returns
 unfolding beyond

@@ -3,11 +3,11 @@
 use mathlib.Core.Path.{_≡_, sym, _∙_}
 use mathlib.Core.Bool.{false}
 use native.Mathlib.Omega.{arith}
-use Rattle.gyalvindor.specs.Lookups.{anyBeyond}
-use Rattle.gyalvindor.proofs.AnyLookups.{Small, small-exactly, any-none, any-plain}
+use Rattle.any_lookup.specs.Lookups.{anyBeyond}
+use Rattle.any_lookup.proofs.AnyLookups.{Small, small-exactly, any-none, any-plain}
 use borrow.Author.Needs.{needs}
-use Rattle.gyalvindor.proofs.lookup_any.Statement.{statement}
-use Rattle.gyalvindor.proofs.lookup_any.Tie as tie
+use Rattle.any_lookup.proofs.lookup_any.Statement.{statement}
+use Rattle.any_lookup.proofs.lookup_any.Tie as tie
 
 plain : (c : tie.Else1) → anyBeyond (c .before .before .before .args .platform) (c .before .before .before .args .encoding) (c .before .before .before .args .language) (c .before .before .before .args .name) ≡ false
 plain c = sym (c .before .any-beyond .ensures) ∙ c .if1 .left
