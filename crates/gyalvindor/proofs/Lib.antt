@@ -1,2 +1,1 @@
-pub mod AnyLookups
 pub mod Tellings

@@ -1,12 +1,12 @@
 // The reader and the writer for C and Rust: the functions of the static library, each answering in plain numbers.
 // Document 01, whole; `include/gyalvindor.h` says the same to a C programmer.
-// Relies on `name`, `name_lookup` and `name_strings`, on `os2` and `os2_writer`, which answer; here an answer is put into words of C.
+// Relies on `name`, `any_lookup` and `name_strings`, on `os2` and `os2_writer`, which answer; here an answer is put into words of C.
 ghost use mathlib.Core.Path.{_≡_};
-ghost use mathlib.Core.Bool.{_||_};
 ghost use mathlib.Core.Option.{none, some};
 ghost use lib.ListN.{length};
 ghost use Rattle.name.specs.Acceptance.{checkOf};
-ghost use Rattle.name_lookup.specs.Answers.{afterCheck, said};
+ghost use Rattle.name_lookup.specs.Answers.{said};
+ghost use Rattle.any_lookup.specs.Lookups.{lookupAny};
 ghost use Rattle.name_strings.specs.Names.{postscriptOf, saidName};
 ghost use Rattle.name_strings.specs.Versions.{versionOf, saidVersion};
 ghost use Rattle.os2_style.specs.Style.{saidSizes};
@@ -18,10 +18,8 @@ ghost use Rattle.os2.specs.Writing.{write, roomAfter};
 ghost use Rattle.os2_writer.specs.Replies as writer;
 ghost use Rattle.os2_writer.specs.Rewriting.{rewritten, roomRewritten};
 ghost use Rattle.gyalvindor.specs.Words.{refusalWords, carriedAt, verdictWords, textWords, versionWords, outcomeRefusal, numberWords, rightsWords, styleWords, opticalWords, writtenWords};
-ghost use Rattle.gyalvindor.specs.Lookups.{beyond, anyBeyond, lookupAny};
 use name::Place;
 use name::Verdict;
-use name_lookup::Answer;
 use name_lookup::Numbered;
 use name_strings::NumberedVersion;
 use os2::Carried;
@@ -231,7 +229,7 @@ pub extern "C" fn gv_name_lookup(
 ) -> GvText
     ensures { λ r. ⌜ r ≡ textWords (said (lookupAny (now (table .entry)) platform encoding language name)) ⌝ }
 {
-    text_words(lookup_any(table, platform, encoding, language, name).said())
+    text_words(any_lookup::lookup_any(table, platform, encoding, language, name).said())
 }
 
 // The PostScript name of a 'name' table.
@@ -395,45 +393,6 @@ fn verdict_words(verdict: Verdict) -> GvRefusal
     match verdict {
         Verdict::Accepted => NO_REFUSAL,
         Verdict::Refused(why) => at_place(why.number(), why.place()),
-    }
-}
-
-// The lookup by any four numbers: a part above 65,535 is in no record.
-fn lookup_any(table: &[u8], platform: u32, encoding: u32, language: u32, name: u32) -> Answer
-    ensures { λ r. ⌜ r ≡ lookupAny (now (table .entry)) platform encoding language name ⌝ }
-{
-    if any_beyond(platform, encoding, language, name) {
-        return in_no_record(table);
-    }
-    name_lookup::lookup(
-        table,
-        platform as u16,
-        encoding as u16,
-        language as u16,
-        name as u16,
-    )
-}
-
-// Whether one of them is no part of a key.
-fn any_beyond(platform: u32, encoding: u32, language: u32, name: u32) -> bool
-    ensures { λ r. ⌜ r ≡ anyBeyond platform encoding language name ⌝ }
-{
-    either_beyond(platform, encoding) || either_beyond(language, name)
-}
-
-fn either_beyond(a: u32, b: u32) -> bool
-    ensures { λ r. ⌜ r ≡ (beyond a || beyond b) ⌝ }
-{
-    65535 < a || 65535 < b
-}
-
-// The table's refusal, else 20.
-fn in_no_record(table: &[u8]) -> Answer
-    ensures { λ r. ⌜ r ≡ afterCheck Answer.Refused (checkOf (now (table .entry))) Answer.NoRecord ⌝ }
-{
-    match name::check(table) {
-        Verdict::Accepted => Answer::NoRecord,
-        Verdict::Refused(why) => Answer::Refused(why),
     }
 }
 

@@ -124,7 +124,8 @@ pub fn entry(k: usize) -> Field
     requires { ⌜ k < 48 ⌝ }
     ensures { λ r. ⌜ r ≡ fieldOf k ⌝ }
 {
-    FIELDS[k]
+    let fields = entries();
+    fields[k]
 }
 
 // Unicode range 0 to 3.

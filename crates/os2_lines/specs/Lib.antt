@@ -1,3 +1,2 @@
-pub mod Figures
 pub mod Listings
 pub mod Examples

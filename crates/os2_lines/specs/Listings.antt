@@ -15,7 +15,7 @@ use Rattle.os2.specs.declared.Question.the-variants.{Field, Rights, StylePositi
 use Rattle.os2.specs.Outcomes.{Value, integer, rights, position, sizes, Said, value, absent, not-known, Outcome, refused, answered}
 use Rattle.os2.specs.Acceptance.{checked}
 use Rattle.os2.specs.Asking.{given}
-use Rattle.os2_lines.specs.Figures.{signedText, rightsText, positionText, sizesText}
+use Rattle.os2_figures.specs.Figures.{signedText, rightsText, positionText, sizesText}
 
 -- a value of a table. Fields 2 and 3 are weight and width, 46 and 47 the lower and upper optical size
 abbrev pub valueText : List ℕ → Value → List ℕ

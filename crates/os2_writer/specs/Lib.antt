@@ -1,3 +1,3 @@
 pub mod Replies
-pub mod Storing
+pub mod Values
 pub mod Rewriting

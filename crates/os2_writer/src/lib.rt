@@ -1,25 +1,22 @@
 // The 'OS/2' writer: 48 whole numbers, stored as a table in lent room, and the rewriting of a table.
 // Document 01, "The writer", in its order of refusals: 4, 5, 8, 3.
-// Relies on `os2` for the definitions of what is written, `os2_fields` for the catalogue, `os2_rules` for the value rules and `bigendian`
-// for the stores.
+// Relies on `os2` for the definitions of what is written, `os2_store` for the passes over the fields, `os2_fields` for the catalogue and
+// `os2_rules` for the value rules.
 ghost use mathlib.Core.Path.{_≡_};
-ghost use Prim.Native.Nat.{_^_, _≤_};
-ghost use mathlib.Core.Bool.{true, cond, not, _&&_};
-ghost use lib.Dec.{ltb, leb};
+ghost use Prim.Native.Nat.{_≤_};
+ghost use mathlib.Core.Bool.{cond};
+ghost use lib.Dec.{ltb};
 ghost use lib.ListN.{length};
-ghost use lib.IntN.{pos};
-ghost use Rattle.bigendian.specs.Numbers.{stored};
-ghost use Rattle.os2_fields.specs.Reading.{Wide, Sound};
-ghost use Rattle.os2.specs.Writing.{fits, codeOf, codeFor, noVersion, lowestMisfit, valuesFor, write, image, roomAfter};
+ghost use Rattle.os2.specs.Writing.{codeFor, noVersion, valuesFor, write, roomAfter};
 ghost use Rattle.os2.specs.Outcomes.{accepted};
 ghost use Rattle.os2.specs.Acceptance.{judged};
 ghost use Rattle.os2_writer.specs.Replies.{refusalNumber, saidWritten, saidRewritten};
 ghost use Rattle.os2_writer.specs.Rewriting.{Reading, rewritten, roomRewritten};
-ghost use Rattle.os2_writer.specs.Storing.{Storable, WordFor, Fitting, Ready, misfitFound};
+ghost use Rattle.os2_store.specs.Storing.{Fitting};
+ghost use Rattle.os2_writer.specs.Values.{WordFor};
 use os2::Checked;
 use os2_fields::FSSELECTION;
 use os2_fields::FSTYPE;
-use os2_fields::Field;
 use os2_fields::LOWER_SIZE;
 use os2_fields::UPPER_SIZE;
 use os2_fields::VERSION;
@@ -79,7 +76,7 @@ pub fn write(numbers: [i64; 48], room: &mut [u8]) -> Written
         Written::Refused(why) => Written::Refused(why),
         Written::Size(size) => {
             let version = numbers[VERSION] as u32;
-            store(&numbers, version, room);
+            os2_store::store(&numbers, version, room);
             Written::Size(size)
         }
     }
@@ -112,7 +109,7 @@ fn check(numbers: &[i64], room: usize) -> Written
     if room < size {
         return Written::Refused(WriteRefusal::NoRoom);
     }
-    let k = lowest_misfit(numbers, version);
+    let k = os2_store::lowest_misfit(numbers, version);
     if k < 48 {
         return Written::Refused(WriteRefusal::DoesNotFit(k as u32));
     }
@@ -127,59 +124,6 @@ fn no_version(x: i64) -> bool
     ensures { λ r. ⌜ r ≡ noVersion x ⌝ }
 {
     x < 0 || 5 < x
-}
-
-// The lowest field of the version that its number does not fit, or 48.
-fn lowest_misfit(numbers: &[i64], version: u32) -> usize
-    requires { ⌜ length (now numbers) ≡ 48 ⌝ }
-    ensures { λ r. ⌜ misfitFound r ≡ lowestMisfit version (now (numbers .entry)) 48 ⌝ }
-{
-    let fields = os2_fields::entries();
-    let mut k: usize = 0;
-    while k < 48 {
-        if misfits(fields[k], numbers[k], version) {
-            return k;
-        }
-        k += 1;
-    }
-    48
-}
-
-// Whether the version has a field that its number does not fit.
-fn misfits(f: Field, x: i64, version: u32) -> bool
-    requires { ⌜ Sound f ⌝ }
-    ensures { λ r. ⌜ r ≡ (leb (f .since) version && not (fits f x)) ⌝ }
-{
-    let since = f.since as u32;
-    if version < since {
-        return false;
-    }
-    !fits(f, x)
-}
-
-// Whether a whole number fits a field.
-fn fits(f: Field, x: i64) -> bool
-    requires { ⌜ Sound f ⌝ }
-    ensures { λ r. ⌜ r ≡ fits f x ⌝ }
-{
-    if f.signed {
-        return -32768 <= x && x < 32768;
-    }
-    0 <= x && x < top(f.width)
-}
-
-// One more than the highest number of so many bytes.
-fn top(width: u8) -> i64
-    requires { ⌜ Wide width ⌝ }
-    ensures { λ r. ⌜ r ≡ pos (256 ^ width) ⌝ }
-{
-    if width == 1 {
-        return 256;
-    }
-    if width == 2 {
-        return 65536;
-    }
-    4294967296
 }
 
 // What the value rules look at.
@@ -215,53 +159,6 @@ fn word(numbers: &[i64], k: usize) -> u16
     ensures { λ r. ⌜ r ≡ codeFor (now (numbers .entry)) k ⌝ }
 {
     numbers[k] as u16
-}
-
-// Stores the fields that the version has.
-fn store(numbers: &[i64], version: u32, room: &mut [u8])
-    requires { ⌜ Ready version (now numbers) (length (now room)) ⌝ }
-    ensures { λ _. ⌜ now (room .exit) ≡ image version (now (numbers .entry)) (now (room .entry)) 48 ⌝ }
-{
-    let fields = os2_fields::entries();
-    let mut k: usize = 0;
-    while k < 48 {
-        let f = fields[k];
-        let came = f.since as u32;
-        if version < came {
-            return;
-        }
-        put(room, f, code(f, numbers[k]));
-        k += 1;
-    }
-}
-
-// What the bytes of a field then make.
-fn code(f: Field, x: i64) -> u32
-    requires { ⌜ Sound f × (fits f x ≡ true) ⌝ }
-    ensures { λ r. ⌜ r ≡ codeOf f x ⌝ }
-{
-    if x < 0 {
-        return (x + 65536) as u32;
-    }
-    x as u32
-}
-
-// Stores a number in a field.
-fn put(room: &mut [u8], f: Field, code: u32)
-    requires { ⌜ Storable (now room) f code ⌝ }
-    ensures { λ _. ⌜ now (room .exit) ≡ stored (f .width) (now (room .entry)) (f .offset) code ⌝ }
-{
-    let at = f.offset as usize;
-    let width = f.width;
-    if width == 1 {
-        room[at] = code as u8;
-        return;
-    }
-    if width == 2 {
-        bigendian::store_u16(room, at, code as u16);
-        return;
-    }
-    bigendian::store_u32(room, at, code);
 }
 
 // The whole numbers in the fields that a table's version has, of a table that level 5 accepts; 0 for the other fields.

@@ -17,10 +17,12 @@ fn main() {
     version(4);
     version(5);
     versions_refused();
-    rooms_refused();
+    room_refused();
+    room_refused_first();
     values_refused();
     rules_refused();
     rewritings_refused();
+    rewriting_without_room();
 }
 
 // Numbers of a version that it accepts, some of them negative or the largest of their fields.
@@ -64,31 +66,26 @@ fn version(version: i64) {
 fn read_back(numbers: [i64; 48], table: &[u8]) {
     let mut k: usize = 0;
     while k < 48 {
-        mark(os2::field(table, 5, k as u32), numbers[k]);
+        let sign = mark(os2::field(table, 5, k as u32), numbers[k]);
+        text(&[sign]);
         k += 1;
     }
     text(b"\n");
 }
 
-fn mark(reply: Reply, number: i64) {
+fn mark(reply: Reply, number: i64) -> u8 {
     let Reply::Answered(answer) = reply else {
-        text(b"!");
-        return;
+        return b'!';
     };
     match answer {
         Answer::Value(x) => {
             if x == number {
-                text(b"=");
-            } else {
-                text(b"!");
+                return b'=';
             }
+            b'!'
         }
-        Answer::Absent => {
-            text(b"-");
-        }
-        Answer::NotKnown => {
-            text(b"!");
-        }
+        Answer::Absent => b'-',
+        Answer::NotKnown => b'!',
     }
 }
 
@@ -101,16 +98,20 @@ fn versions_refused() {
     end(room[0]);
 }
 
-// A room one byte too short, also for a value that does not fit.
-fn rooms_refused() {
+// A room one byte too short.
+fn room_refused() {
     let mut room: [u8; 77] = [170; 77];
     say(os2_writer::write(sample(0), &mut room));
     end(room[0]);
-    let mut longer: [u8; 99] = [170; 99];
+}
+
+// The same for a value that does not fit.
+fn room_refused_first() {
+    let mut room: [u8; 99] = [170; 99];
     let mut numbers = sample(5);
     numbers[2] = 70000;
-    say(os2_writer::write(numbers, &mut longer));
-    end(longer[0]);
+    say(os2_writer::write(numbers, &mut room));
+    end(room[0]);
 }
 
 // Values that do not fit: the lowest field is told, before any rule; one of a field that the version lacks is not looked at.
@@ -138,24 +139,30 @@ fn rules_refused() {
     row(numbers);
 }
 
-// A table that the reader refuses, one of version 6, and a room that is too short.
+// Tables that the reader refuses, and one of version 6.
 fn rewritings_refused() {
-    let mut room: [u8; 101] = [170; 101];
-    say_rewritten(os2_writer::rewrite(b"\x00", &mut room));
-    ends(room[0], room[100]);
-    let zeros: [u8; 78] = [0; 78];
-    say_rewritten(os2_writer::rewrite(&zeros, &mut room));
-    ends(room[0], room[100]);
+    rewriting(b"\x00");
+    rewriting(&[0; 78]);
     let mut later: [u8; 100] = [0; 100];
     later[1] = 6;
-    say_rewritten(os2_writer::rewrite(&later, &mut room));
-    ends(room[0], room[100]);
+    rewriting(&later);
+}
+
+// A room that is too short for the table.
+fn rewriting_without_room() {
     let mut table: [u8; 78] = [0; 78];
     table[5] = 1;
     table[7] = 1;
-    let mut short: [u8; 77] = [170; 77];
-    say_rewritten(os2_writer::rewrite(&table, &mut short));
-    end(short[0]);
+    let mut room: [u8; 77] = [170; 77];
+    say_rewritten(os2_writer::rewrite(&table, &mut room));
+    end(room[0]);
+}
+
+// A table rewritten into a room that is long enough for every version.
+fn rewriting(table: &[u8]) {
+    let mut room: [u8; 101] = [170; 101];
+    say_rewritten(os2_writer::rewrite(table, &mut room));
+    ends(room[0], room[100]);
 }
 
 // The numbers written into a room that is long enough for every version.

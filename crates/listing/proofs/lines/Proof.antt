@@ -1,5 +1,6 @@
 -- A table that is not refused is accepted.
 -- Assumes nothing.
+use mathlib.Core.Path.{sym, _∙_}
 use native.Mathlib.Omega.{arith}
 use borrow.Author.Needs.{needs}
 use Rattle.listing.proofs.lines.Statement.{statement}
@@ -21,7 +22,7 @@ enum-told : tie.Need-enum-told
 enum-told c = search needs
 
 accepted-lines-requires : tie.Need-accepted-lines-requires
-accepted-lines-requires c κs = ((cc), omega arith)
+accepted-lines-requires c κs = (sym (c .before .before .before .check .ensures) ∙ c .before .enum-told .given .1, omega arith)
 
 same-length : tie.Need-same-length
 same-length c = search needs

@@ -1,6 +1,6 @@
 -- Each test on the way settles its line of the definition; what a test leaves is what the next one needs.
 -- Assumes nothing.
-use mathlib.Core.Path.{_≡_}
+use mathlib.Core.Path.{_≡_, sym, _∙_}
 use mathlib.Core.Bool.{false}
 use denote.Ref.{now}
 use borrow.Author.Needs.{needs}
@@ -10,16 +10,16 @@ use Rattle.name.proofs.layout_fault.Statement.{statement}
 use Rattle.name.proofs.layout_fault.Tie as tie
 
 short : (c : tie.Else1) → tooShort (now (c .before .before .before .args .table)) ≡ false
-short c = cc
+short c = sym (c .before .too-short .ensures) ∙ c .if1 .left
 
 known : (c : tie.Else2) → otherFormat (now (c .before .before .before .before .before .args .table)) ≡ false
-known c = cc
+known c = sym (c .before .other-format .ensures) ∙ c .if2 .left
 
 records : (c : tie.Else3) → recordsPass (now (c .before .before .before .before .before .before .before .args .table)) ≡ false
-records c = cc
+records c = sym (c .before .records-pass .ensures) ∙ c .if3 .left
 
 tags : (c : tie.Else4) → tagsPass (now (c .before .before .before .before .before .before .before .before .before .args .table)) ≡ false
-tags c = cc
+tags c = sym (c .before .tags-pass .ensures) ∙ c .if4 .left
 
 too-short-requires : tie.Need-too-short-requires
 too-short-requires c κs = search needs

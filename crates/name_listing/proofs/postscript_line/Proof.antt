@@ -1,6 +1,6 @@
 -- The name lies within the table and is at most 63 bytes long.
 -- Assumes nothing.
-use mathlib.Core.Path.{_≡_, _∙_}
+use mathlib.Core.Path.{_≡_, sym, ap, _∙_}
 use Prim.Native.Nat.{_+_, _-_, _≤_}
 use native.Mathlib.Omega.{arith}
 use denote.Ref.{now}
@@ -14,8 +14,11 @@ use Rattle.name_listing.proofs.postscript_line.Statement.{statement}
 use Rattle.name_listing.proofs.postscript_line.Tie as tie
 
 -- what the question answers, and where the name lies
+asked : (c : tie.After-said) → c .said .result ≡ saidName (postscriptOf (now (c .before .before .before .args .table)))
+asked c = c .said .ensures ∙ ap saidName (c .before .accepted-postscript .ensures)
+
 found : (c : tie.After-known-told) → saidName (postscriptOf (now (c .before .before .before .before .before .before .args .table))) ≡ Text (c .before .start .given .0 .0) (c .before .start .given .0 .1 .0)
-found c = cc
+found c = sym (asked (c .before .before .before)) ∙ c .before .start .given .1
 
 within : (c : tie.After-known-told) → (c .before .start .given .0 .0 + c .before .start .given .0 .1 .0 ≤ length (now (c .before .before .before .before .before .before .args .table))) × (c .before .start .given .0 .1 .0 ≤ 63)
 within c =
@@ -60,7 +63,7 @@ returns : tie.Need-returns
 returns c = let g = c .before .before .before .start .given in let z : g .0 .0 + g .0 .1 .0 - g .0 .0 ≡ g .0 .1 .0 = omega arith in c .postscript-line .ensures ∙ rw (z, found (c .before .before))
 
 returns-2 : tie.Need-returns-2
-returns-2 c = let e : saidName (postscriptOf (now (c .before .before .before .before .before .before .before .args .table))) ≡ Refusal (c .before .before .number .given .0 .0) (c .before .before .number .given .0 .1 .0) = cc in c .postscript-refused .ensures ∙ rw e
+returns-2 c = let e : saidName (postscriptOf (now (c .before .before .before .before .before .before .before .args .table))) ≡ Refusal (c .before .before .number .given .0 .0) (c .before .before .number .given .0 .1 .0) = sym (asked (c .before .before .before .before)) ∙ c .before .before .number .given .1 in c .postscript-refused .ensures ∙ rw e
 
 pub postscript-line-spec : {M : Type 1} → statement M
 postscript-line-spec =

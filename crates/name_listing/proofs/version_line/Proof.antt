@@ -1,12 +1,16 @@
 -- The line is that of the answer, figures or refusal.
 -- Assumes nothing.
-use mathlib.Core.Path.{_≡_, _∙_}
+use mathlib.Core.Path.{_≡_, sym, ap, _∙_}
 use denote.Ref.{now}
 use Rattle.name_strings.specs.declared.NumberedVersion.the-variants.{Number, Refusal}
 use Rattle.name_strings.specs.Versions.{versionOf, saidVersion}
 use borrow.Author.Needs.{needs}
 use Rattle.name_listing.proofs.version_line.Statement.{statement}
 use Rattle.name_listing.proofs.version_line.Tie as tie
+
+-- what the question answers
+asked : (c : tie.After-said) → c .said .result ≡ saidVersion (versionOf (now (c .before .before .before .args .table)))
+asked c = c .said .ensures ∙ ap saidVersion (c .before .accepted-version .ensures)
 
 accepted-version-requires : tie.Need-accepted-version-requires
 accepted-version-requires c κs = search needs
@@ -36,10 +40,10 @@ version-refused-requires : tie.Need-version-refused-requires
 version-refused-requires c κs = search needs
 
 returns : tie.Need-returns
-returns c = let e : saidVersion (versionOf (now (c .before .before .before .before .before .before .before .args .table))) ≡ Number (c .before .before .major .given .0 .0) (c .before .before .major .given .0 .1 .0) = cc in c .version-line .ensures ∙ rw e
+returns c = let e : saidVersion (versionOf (now (c .before .before .before .before .before .before .before .args .table))) ≡ Number (c .before .before .major .given .0 .0) (c .before .before .major .given .0 .1 .0) = sym (asked (c .before .before .before .before)) ∙ c .before .before .major .given .1 in c .version-line .ensures ∙ rw e
 
 returns-2 : tie.Need-returns-2
-returns-2 c = let e : saidVersion (versionOf (now (c .before .before .before .before .before .before .before .args .table))) ≡ Refusal (c .before .before .number .given .0 .0) (c .before .before .number .given .0 .1 .0) = cc in c .version-refused .ensures ∙ rw e
+returns-2 c = let e : saidVersion (versionOf (now (c .before .before .before .before .before .before .before .args .table))) ≡ Refusal (c .before .before .number .given .0 .0) (c .before .before .number .given .0 .1 .0) = sym (asked (c .before .before .before .before)) ∙ c .before .before .number .given .1 in c .version-refused .ensures ∙ rw e
 
 pub version-line-spec : {M : Type 1} → statement M
 version-line-spec =

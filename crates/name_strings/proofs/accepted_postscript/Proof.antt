@@ -23,13 +23,22 @@ accepted c = c .before .pre
 
 -- what the two lookups found
 first-at : (c : tie.After-known-told) → recordOf (table (c .before .before .before .before .before)) 1 0 0 6 ≡ At (c .before .first .given .0 .0)
-first-at c = cc
+first-at c = sym (c .before .before .before .before .find .ensures) ∙ c .before .first .given .1
 
 second-at : (c : tie.After-known-told2) → recordOf (table (c .before .before .before .before .before .before .before .before)) 3 1 1033 6 ≡ At (c .before .second .given .0 .0)
-second-at c = cc
+second-at c = sym (c .before .before .before .before .before .before .find2 .ensures) ∙ c .before .second .given .1
 
 first-none : (c : tie.After-enum-told2) → recordOf (table (c .before .before .before .before)) 1 0 0 6 ≡ Nowhere
-first-none c = cc
+first-none c = sym (c .before .before .before .find .ensures) ∙ c .enum-told2 .given .1
+
+second-none : (c : tie.After-enum-told) → recordOf (table (c .before .before .before .before .before .before .before)) 3 1 1033 6 ≡ Nowhere
+second-none c = sym (c .before .before .before .before .before .find2 .ensures) ∙ c .enum-told .given .1
+
+second-alone : (c : tie.After-enum-told3) → recordOf (table (c .before .before .before .before .before .before)) 3 1 1033 6 ≡ At (c .enum-told3 .given .0 .0)
+second-alone c = sym (c .before .before .before .before .find2 .ensures) ∙ c .enum-told3 .given .1
+
+neither : (c : tie.After-enum-told4) → recordOf (table (c .before .before .before .before .before .before)) 3 1 1033 6 ≡ Nowhere
+neither c = sym (c .before .before .before .before .find2 .ensures) ∙ c .enum-told4 .given .1
 
 find-requires : tie.Need-find-requires
 find-requires c κs = accepted c
@@ -62,13 +71,13 @@ returns : tie.Need-returns
 returns c = let k = c .before in c .from-records .ensures ∙ sym (name-both _ (accepted (k .before .before .before .before .before .before .before .before)) (first-at (k .before .before .before)) (second-at k))
 
 returns-2 : tie.Need-returns-2
-returns-2 c = let k = c .before .before in sym (name-first _ (accepted (k .before .before .before .before .before)) (first-at k) (cc))
+returns-2 c = let k = c .before .before in sym (name-first _ (accepted (k .before .before .before .before .before)) (first-at k) (second-none c))
 
 returns-3 : tie.Need-returns-3
-returns-3 c = let k = c .before .before in let e : recordOf (table (k .before .before .before .before)) 3 1 1033 6 ≡ At (c .enum-told3 .given .0 .0) = cc in sym (name-second _ (accepted (k .before .before .before .before)) (first-none k) e)
+returns-3 c = let k = c .before .before in sym (name-second _ (accepted (k .before .before .before .before)) (first-none k) (second-alone c))
 
 returns-4 : tie.Need-returns-4
-returns-4 c = let k = c .before .before in sym (name-neither _ (accepted (k .before .before .before .before)) (first-none k) (cc))
+returns-4 c = let k = c .before .before in sym (name-neither _ (accepted (k .before .before .before .before)) (first-none k) (neither c))
 
 pub accepted-postscript-spec : {M : Type 1} → statement M
 accepted-postscript-spec =

@@ -23,13 +23,13 @@ accepted c = c .before .pre
 
 -- what the two lookups found
 wide-at : (c : tie.After-known-told) → recordOf (table (c .before .before .before .before)) 3 1 1033 5 ≡ At (c .before .i .given .0 .0)
-wide-at c = cc
+wide-at c = sym (c .before .before .before .find .ensures) ∙ c .before .i .given .1
 
 wide-none : (c : tie.After-enum-told) → recordOf (table (c .before .before .before)) 3 1 1033 5 ≡ Nowhere
-wide-none c = cc
+wide-none c = sym (c .before .before .find .ensures) ∙ c .enum-told .given .1
 
 narrow-at : (c : tie.After-known-told2) → recordOf (table (c .before .before .before .before .before .before .before)) 1 0 0 5 ≡ At (c .before .i2 .given .0 .0)
-narrow-at c = cc
+narrow-at c = sym (c .before .before .before .find2 .ensures) ∙ c .before .i2 .given .1
 
 find-requires : tie.Need-find-requires
 find-requires c κs = accepted c
@@ -62,7 +62,7 @@ enum-told-2 : tie.Need-enum-told-2
 enum-told-2 c = search needs
 
 returns-3 : tie.Need-returns-3
-returns-3 c = let k = c .before .before .before in sym (version-neither _ (accepted (k .before .before .before)) (wide-none k) (cc))
+returns-3 c = let k = c .before .before .before in sym (version-neither _ (accepted (k .before .before .before)) (wide-none k) (sym (c .before .before .find2 .ensures) ∙ c .enum-told2 .given .1))
 
 pub accepted-version-spec : {M : Type 1} → statement M
 accepted-version-spec =

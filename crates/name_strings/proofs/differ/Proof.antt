@@ -26,7 +26,8 @@ sized : (c : tie.Else1 Inv-loop μ-loop) →
     ≡ someOf (differAt (now (a .first)) (characters true (now (a .second)))) (c .before .before .count .result)
 sized c =
     let a = c .before .before .before .before .before .args in
-    let e : length (now (a .first)) ≡ length (characters true (now (a .second))) = cc in
+    let e : length (now (a .first)) ≡ length (characters true (now (a .second))) =
+    sym (c .before .count2 .ensures) ∙ c .if1 .left ∙ c .before .before .count .ensures in
     rw (c .before .before .count .ensures) (differ-sized _ _ e)
 
 count-requires : tie.Need-count-requires Inv-loop μ-loop

@@ -3,7 +3,7 @@
 use Rattle.characters.specs.Strings.{characters, odd}
 use Rattle.name_strings.specs.Forms.{someOf, otherAt, wrongCount, illFormed}
 use Prim.Native.Nat.{_≤_, _-_}
-use mathlib.Core.Path.{_≡_, sym, _∙_}
+use mathlib.Core.Path.{_≡_, sym, ap, _∙_}
 use mathlib.Core.Bool.{true, false}
 use native.Mathlib.Omega.{arith}
 use borrow.Author.Needs.{needs}
@@ -19,15 +19,22 @@ Inv-loop text wide count i₀ i = (i ≤ count) × (someOf (otherAt (characters 
 abbrev μ-loop : tie.MeasureT-loop
 μ-loop text wide count i₀ i = count - i
 
+-- the two tests before the loop
+even : (c : tie.Else1 Inv-loop μ-loop) → let a = c .before .before .before .args in odd (a .wide) (now (a .text)) ≡ false
+even c = sym (c .before .is-odd .ensures) ∙ c .if1 .left
+
+counted : (c : tie.After-count Inv-loop μ-loop) →
+    let a = c .before .before .before .before .args in
+    wrongCount (c .count .result) ≡ wrongCount (length (characters (a .wide) (now (a .text))))
+counted c = ap wrongCount (c .count .ensures)
+
 -- an even length and 1 to 63 characters: every one is to be allowed
 sized : (c : tie.Else2 Inv-loop μ-loop) →
     let a = c .before .before .before .before .before .before .args in
     illFormed (a .wide) (now (a .text)) ≡ someOf (otherAt (characters (a .wide) (now (a .text)))) (c .before .before .count .result)
 sized c =
-    let a = c .before .before .before .before .before .before .args in
-    let even : odd (a .wide) (now (a .text)) ≡ false = cc in
-    let right : wrongCount (length (characters (a .wide) (now (a .text)))) ≡ false = cc in
-    rw (c .before .before .count .ensures) (ill-sized _ _ even right)
+    let k = c .before .before in
+    rw (k .count .ensures) (ill-sized _ _ (even (k .before)) (sym (counted k) ∙ sym (c .before .wrong-count .ensures) ∙ c .if2 .left))
 
 -- the test of the character at hand
 seen : (c : tie.After-is-other Inv-loop μ-loop) →
@@ -50,10 +57,8 @@ wrong-count-requires c κs = search needs
 
 returns-2 : tie.Need-returns-2 Inv-loop μ-loop
 returns-2 c =
-    let a = c .before .before .before .before .before .before .args in
-    let even : odd (a .wide) (now (a .text)) ≡ false = cc in
-    let wrong : wrongCount (length (characters (a .wide) (now (a .text)))) ≡ true = cc in
-    sym (ill-count _ _ even wrong)
+    let k = c .before .before in
+    sym (ill-count _ _ (even (k .before)) (sym (counted k) ∙ sym (c .before .wrong-count .ensures) ∙ c .if2 .taken))
 
 loop-holds : tie.Need-loop-holds Inv-loop μ-loop
 loop-holds c = (search needs, some-none _)

@@ -1,7 +1,7 @@
 -- The record lies within an accepted table, and the part lent to the search is its string.
 -- Assumes nothing.
 use Prim.Native.Nat.{_+_, _≤_}
-use mathlib.Core.Path.{_≡_}
+use mathlib.Core.Path.{_≡_, sym, _∙_}
 use lib.ListN.{length}
 use Rattle.version_text.specs.declared.Version.{Version}
 use denote.Ref.{now}
@@ -56,12 +56,12 @@ enum-told c = search needs
 
 returns : tie.Need-returns
 returns c =
-    let e : found (c .before .before .before) ≡ Number (c .before .major .given .0 .0) (c .before .major .given .0 .1 .0) = cc (read (c .before .before .before)) in
+    let e : found (c .before .before .before) ≡ Number (c .before .major .given .0 .0) (c .before .major .given .0 .1 .0) = sym (read (c .before .before .before)) ∙ c .before .major .given .1 in
     rw e
 
 returns-2 : tie.Need-returns-2
 returns-2 c =
-    let e : found (c .before .before) ≡ NoNumber = cc (read (c .before .before)) in
+    let e : found (c .before .before) ≡ NoNumber = sym (read (c .before .before)) ∙ c .enum-told .given .1 in
     rw e
 
 pub version-at-spec : {M : Type 1} → statement M

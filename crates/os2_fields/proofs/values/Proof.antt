@@ -41,7 +41,7 @@ optical-size-requires-2 c κs = record { sized = c .before .before .before .befo
 
 returns : tie.Need-returns
 unfolding valuesOf fieldOf catalogue
-returns c = cc
+returns c = rw (c .optical-size2 .ensures, c .before .optical-size .ensures, c .before .before .word4 .ensures, c .before .before .before .word3 .ensures, c .before .before .before .before .word2 .ensures, c .before .before .before .before .before .word .ensures, c .before .before .before .before .before .before .version .ensures)
 
 pub values-spec : {M : Type 1} → statement M
 values-spec =

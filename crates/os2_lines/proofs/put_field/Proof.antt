@@ -3,9 +3,9 @@
 use mathlib.Core.Path.{sym, ap, _∙_}
 use native.Mathlib.Omega.{arith}
 use Rattle.os2.specs.Replies.{saidAnswer}
-use Rattle.os2_lines.specs.Figures.{signedText}
+use Rattle.os2_figures.specs.Figures.{signedText}
 use Rattle.os2_lines.specs.Listings.{answerText}
-use Rattle.os2_lines.proofs.Laws.{kept, put-as}
+use Rattle.os2_figures.proofs.Laws.{kept, put-as}
 use borrow.Author.Needs.{needs}
 use Rattle.os2_lines.proofs.put_field.Statement.{statement}
 use Rattle.os2_lines.proofs.put_field.Tie as tie

@@ -4,7 +4,7 @@ use mathlib.Core.Path.{refl}
 use native.Mathlib.Omega.{arith}
 use borrow.Author.Tests.{lt-ltb, le-ltb, eq-eqb, ne-eqb}
 use Rattle.os2_lines.specs.Listings.{nameOf}
-use Rattle.os2_lines.proofs.Laws.{put-as}
+use Rattle.os2_figures.proofs.Laws.{put-as}
 use borrow.Author.Needs.{needs}
 use Rattle.os2_lines.proofs.put_name.Statement.{statement}
 use Rattle.os2_lines.proofs.put_name.Tie as tie

@@ -4,7 +4,7 @@ use mathlib.Core.Path.{sym, ap, _∙_}
 use native.Mathlib.Omega.{arith}
 use Rattle.os2.specs.Replies.{saidRightsAnswer}
 use Rattle.os2_lines.specs.Listings.{answerText}
-use Rattle.os2_lines.proofs.Laws.{put-as}
+use Rattle.os2_figures.proofs.Laws.{put-as}
 use borrow.Author.Needs.{needs}
 use Rattle.os2_lines.proofs.put_rights.Statement.{statement}
 use Rattle.os2_lines.proofs.put_rights.Tie as tie

@@ -11,7 +11,8 @@ use Rattle.os2.specs.Questions.{since}
 use Rattle.os2.specs.Replies.{saidOpticalAnswer}
 use Rattle.os2.proofs.Accepting.{open-word}
 use Rattle.os2_lines.specs.Listings.{answerText}
-use Rattle.os2_lines.proofs.Laws.{put-as, value-since}
+use Rattle.os2_figures.proofs.Laws.{put-as}
+use Rattle.os2_lines.proofs.Laws.{value-since}
 use borrow.Author.Needs.{needs}
 use Rattle.os2_lines.proofs.put_sizes.Statement.{statement}
 use Rattle.os2_lines.proofs.put_sizes.Tie as tie

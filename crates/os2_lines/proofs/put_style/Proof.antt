@@ -10,7 +10,8 @@ use Rattle.os2.specs.Questions.{onWhole}
 use Rattle.os2.specs.Replies.{saidStyleAnswer}
 use Rattle.os2.proofs.Accepting.{open-word, open-rules}
 use Rattle.os2_lines.specs.Listings.{answerText}
-use Rattle.os2_lines.proofs.Laws.{put-as, value-whole}
+use Rattle.os2_figures.proofs.Laws.{put-as}
+use Rattle.os2_lines.proofs.Laws.{value-whole}
 use borrow.Author.Needs.{needs}
 use Rattle.os2_lines.proofs.put_style.Statement.{statement}
 use Rattle.os2_lines.proofs.put_style.Tie as tie

@@ -13,7 +13,8 @@ use Rattle.os2_rules.specs.declared.Verdict.{Verdict}
 use Rattle.os2_rules.specs.Tests.{verdictOf}
 use Rattle.os2.specs.Outcomes.{answered, unlessBroken}
 use Rattle.os2.specs.Writing.{numberFor, lowestMisfit, valuesFor, write}
-use Rattle.os2_writer.proofs.Signs.{kept, version-known}
+use Rattle.os2_store.proofs.Signs.{kept}
+use Rattle.os2_writer.proofs.Signs.{version-known}
 use Rattle.os2_writer.proofs.Outcomes.{wrote-4, wrote-5, wrote-8, wrote}
 use borrow.Author.Needs.{needs}
 use Rattle.os2_writer.proofs.check.Statement.{statement}

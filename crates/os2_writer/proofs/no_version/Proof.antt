@@ -1,7 +1,8 @@
 -- By the number's sign.
 -- Assumes nothing.
 use mathlib.Core.Path.{_∙_}
-use Rattle.os2_writer.proofs.Signs.{kept, version-under, version-above}
+use Rattle.os2_store.proofs.Signs.{kept}
+use Rattle.os2_writer.proofs.Signs.{version-under, version-above}
 use Rattle.os2_writer.proofs.no_version.Statement.{statement}
 use Rattle.os2_writer.proofs.no_version.Tie as tie
 

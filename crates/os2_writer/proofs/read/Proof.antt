@@ -3,8 +3,9 @@
 use native.Mathlib.Numerals.{add-one}
 use lib.ListN.{length, length-set}
 use Rattle.os2_fields.specs.Fields.{valueIn, version}
-use Rattle.os2_writer.proofs.Signs.{kept}
-use Rattle.os2_writer.proofs.Steps.{entry-is, readable, read-next, comes-before}
+use Rattle.os2_store.proofs.Signs.{kept}
+use Rattle.os2_store.proofs.Steps.{entry-is}
+use Rattle.os2_writer.proofs.Steps.{readable, read-next, comes-before}
 use borrow.Author.Needs.{needs}
 use Prim.Native.Nat.{ℕ, _-_, _<_, _≤_}
 use mathlib.Core.Path.{_≡_, refl, _∙_}

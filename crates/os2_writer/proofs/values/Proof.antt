@@ -38,7 +38,7 @@ optical-size-requires-2 c κs = λ h. word-for _ _ (c .before .before .before .b
 
 returns : tie.Need-returns
 unfolding valuesFor
-returns c = cc
+returns c = rw (c .optical-size2 .ensures, c .before .optical-size .ensures, c .before .before .word4 .ensures, c .before .before .before .word3 .ensures, c .before .before .before .before .word2 .ensures, c .before .before .before .before .before .word .ensures)
 
 pub values-spec : {M : Type 1} → statement M
 values-spec =

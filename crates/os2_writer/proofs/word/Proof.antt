@@ -1,6 +1,7 @@
 -- A number that fits an unsigned field of two bytes is its own code.
 -- Assumes nothing.
-use Rattle.os2_writer.proofs.Signs.{kept, word-small}
+use Rattle.os2_store.proofs.Signs.{kept}
+use Rattle.os2_writer.proofs.Signs.{word-small}
 use mathlib.Core.Path.{_≡_, ap, _∙_}
 use lib.IntN.{pos, natAbs}
 use mir.Syntax.{w64}

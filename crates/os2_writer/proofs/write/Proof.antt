@@ -11,7 +11,8 @@ use Rattle.os2.specs.Outcomes.{answered}
 use Rattle.os2.specs.Writing.{numberFor, codeFor, write, image, roomAfter}
 use Rattle.os2.proofs.RoundTrips.{Success, success, code-version, room-written, room-refused}
 use Rattle.os2_writer.specs.Replies.{saidWritten}
-use Rattle.os2_writer.proofs.Signs.{kept, version-known}
+use Rattle.os2_store.proofs.Signs.{kept}
+use Rattle.os2_writer.proofs.Signs.{version-known}
 use borrow.Author.Needs.{needs}
 use Rattle.os2_writer.proofs.write.Statement.{statement}
 use Rattle.os2_writer.proofs.write.Tie as tie

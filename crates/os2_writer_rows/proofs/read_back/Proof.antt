@@ -7,10 +7,10 @@ use Rattle.os2_writer_rows.proofs.read_back.Statement.{statement}
 use Rattle.os2_writer_rows.proofs.read_back.Tie as tie
 
 abbrev Inv-loop : tie.InvT-loop
-Inv-loop table numbers k₀ t5 k = k ≤ 48
+Inv-loop table numbers k₀ t6 k = k ≤ 48
 
 abbrev μ-loop : tie.MeasureT-loop
-μ-loop table numbers k₀ t5 k = 48 - k
+μ-loop table numbers k₀ t6 k = 48 - k
 
 loop-holds : tie.Need-loop-holds Inv-loop μ-loop
 loop-holds c = omega arith
@@ -30,6 +30,12 @@ array-copy-out-mark c = search needs
 mark-requires : tie.Need-mark-requires Inv-loop μ-loop
 mark-requires c κs = search needs
 
+slice-aggregate-text : tie.Need-slice-aggregate-text Inv-loop μ-loop
+slice-aggregate-text c = search needs
+
+text-requires : tie.Need-text-requires Inv-loop μ-loop
+text-requires c κs = search needs
+
 add-k : tie.Need-add-k Inv-loop μ-loop
 add-k c = search needs
 
@@ -39,11 +45,11 @@ loop-less c = omega arith
 loop-again : tie.Need-loop-again Inv-loop μ-loop
 loop-again c = omega arith
 
-slice-aggregate-text : tie.Need-slice-aggregate-text Inv-loop μ-loop
-slice-aggregate-text c = search needs
+slice-aggregate-text-2 : tie.Need-slice-aggregate-text-2 Inv-loop μ-loop
+slice-aggregate-text-2 c = search needs
 
-text-requires : tie.Need-text-requires Inv-loop μ-loop
-text-requires c κs = search needs
+text-requires-2 : tie.Need-text-requires-2 Inv-loop μ-loop
+text-requires-2 c κs = search needs
 
 returns : tie.Need-returns Inv-loop μ-loop
 returns c = search needs
@@ -60,9 +66,11 @@ read-back-spec =
     mul-mark
     array-copy-out-mark
     mark-requires
+    slice-aggregate-text
+    text-requires
     add-k
     loop-less
     loop-again
-    slice-aggregate-text
-    text-requires
+    slice-aggregate-text-2
+    text-requires-2
     returns)

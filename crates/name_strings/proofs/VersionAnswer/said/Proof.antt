@@ -1,7 +1,7 @@
 -- Each arm is the definition at its case.
 -- Assumes nothing.
-use mathlib.Core.Path.{_≡_}
-use Rattle.name_strings.specs.declared.VersionAnswer.the-variants.{Refused}
+use mathlib.Core.Path.{sym, ap}
+use Rattle.name_strings.specs.Versions.{saidVersion}
 use borrow.Author.Needs.{needs}
 use Rattle.name_strings.proofs.VersionAnswer.said.Statement.{statement}
 use Rattle.name_strings.proofs.VersionAnswer.said.Tie as tie
@@ -25,18 +25,16 @@ place-requires : tie.Need-place-requires
 place-requires c κs = search needs
 
 returns : tie.Need-returns
-returns c = cc
+returns c = sym (ap saidVersion (c .before .self .given .1))
 
 returns-2 : tie.Need-returns-2
-returns-2 c = cc
+returns-2 c = sym (ap saidVersion (c .enum-told .given .1))
 
 returns-3 : tie.Need-returns-3
-returns-3 c = cc
+returns-3 c = sym (ap saidVersion (c .enum-told2 .given .1))
 
 returns-4 : tie.Need-returns-4
-returns-4 c =
-    let e : c .before .before .before .before .before .args .self ≡ Refused (c .before .before .before .self2 .given .0 .0) = cc in
-    rw (e, c .before .number .ensures, c .place .ensures)
+returns-4 c = rw (c .before .before .before .self2 .given .1, c .before .number .ensures, c .place .ensures)
 
 pub said-spec : {M : Type 1} → statement M
 said-spec =

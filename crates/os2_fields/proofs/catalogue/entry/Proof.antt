@@ -1,10 +1,12 @@
--- The table in the code is the list of the definition.
+-- The entry of the table is that of the list which the table is.
 -- Assumes nothing.
-use mathlib.Core.Path.{refl}
-use Rattle.os2_fields.specs.Catalogue.{catalogue, fieldOf}
+use Rattle.os2_fields.specs.Catalogue.{fieldOf}
 use borrow.Author.Needs.{needs}
 use Rattle.os2_fields.proofs.catalogue.entry.Statement.{statement}
 use Rattle.os2_fields.proofs.catalogue.entry.Tie as tie
+
+entries-requires : tie.Need-entries-requires
+entries-requires c κs = search needs
 
 mul-result : tie.Need-mul-result
 mul-result c = search needs
@@ -13,8 +15,8 @@ array-copy-out-result : tie.Need-array-copy-out-result
 array-copy-out-result c = search needs
 
 returns : tie.Need-returns
-unfolding fieldOf catalogue
-returns c = refl
+unfolding fieldOf
+returns c = rw (c .before .entries .ensures)
 
 pub entry-spec : {M : Type 1} → statement M
-entry-spec = tie.close (tie.spec mul-result array-copy-out-result returns)
+entry-spec = tie.close (tie.spec entries-requires mul-result array-copy-out-result returns)
