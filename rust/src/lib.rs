@@ -11,8 +11,8 @@
 //! # Accepted and refused
 //!
 //! Fonts come from anywhere, so every function checks the whole table first. It gives the answer, or a [`Refusal`] that says
-//! why there is none. A table that is accepted keeps all the rules: strings lie inside the table, records are sorted,
-//! numbers are in their ranges.
+//! why there is none. A 'name' table that is accepted keeps all the rules: strings lie inside the table and records are
+//! sorted. So does an 'OS/2' table whose version is at most the level; of a newer one only the length is checked.
 //!
 //! ```
 //! use gyalvindor::{name, Refusal};

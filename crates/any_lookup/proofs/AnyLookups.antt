@@ -1,4 +1,4 @@
--- "Found exactly when", for any four numbers: a part of a record's key is below 65,536, so no record has a part above 65,535; and else the lookup is
+-- "found by its four numbers exactly when a record has them", whatever the four numbers: a part of a record's key is below 65,536, so no record has a part above 65,535; and else the lookup is
 -- that of four 16-bit numbers.
 -- Assumes nothing.
 use Prim.Native.Nat.{ℕ, _+_, _≤_}

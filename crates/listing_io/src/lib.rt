@@ -1,5 +1,5 @@
 // What the listing programs share: a table read from a file or from standard input, and lines collected in a buffer and written.
-// No contract can say what a call of the operating system reads or writes, so the contracts give bounds alone.
+// No contract can say what a call of the operating system reads or writes: what is read has a bound, and where the next line goes is said.
 ghost use Prim.Native.Nat.{_+_, _≤_};
 ghost use lib.ListN.{length};
 ghost use mathlib.Core.Path.{_≡_};

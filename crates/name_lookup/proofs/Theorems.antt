@@ -1,4 +1,4 @@
--- "Found exactly when": a scan of rising keys finds the one record that has the key, and equal keys have all four numbers equal.
+-- "found by its four numbers exactly when a record has them": a scan of rising keys finds the one record that has the key, and equal keys have all four numbers equal.
 -- Assumes nothing.
 use Prim.Native.Nat.{ℕ, _+_, _<_}
 use mathlib.Core.Path.{_≡_, refl}

@@ -1,4 +1,4 @@
--- "Found exactly when", of any lookup, in plain propositions.
+-- "found by its four numbers exactly when a record has them", of any lookup, in plain propositions.
 use Prim.Native.Nat.{ℕ, _+_, _≤_, _<_}
 use mathlib.Core.Path.{_≡_}
 use mathlib.Core.Logic.{_↔_}

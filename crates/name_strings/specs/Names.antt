@@ -1,4 +1,4 @@
--- Document 01, "PostScript name and version number": "Only two records count: (1, 0, 0, 6), one byte a character, and (3, 1, 0x409, 6), two bytes a character."
+-- Document 01, "PostScript name and version number": "Only two records count (001): (1, 0, 0, 6), one byte a character, and (3, 1, 0x409, 6), two bytes a character."
 use Prim.Native.Nat.{ℕ}
 use mathlib.Core.Bool.{Bool, true, false, cond, _||_}
 use mathlib.Core.List.{List}

@@ -1,4 +1,4 @@
--- Figures worked out by hand: document 01's point figures and percentages.
+-- Figures worked out by hand: points by document 01's rule, and its percentages.
 use Prim.Native.Nat.{ℕ, zero, suc, _-_}
 use mathlib.Core.Path.{_≡_}
 use mathlib.Core.Bool.{Bool, true, not, _&&_}

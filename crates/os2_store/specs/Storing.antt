@@ -29,6 +29,6 @@ pub record Ready (v : ℕ) (xs : List ℤ) (room : ℕ) : Type 0 where
   pub fit : Fitting v xs
   pub long : tableSize v ≤ room
 
--- a field number, 48 for none
+-- the field that a number gives; none where it is 48 or more
 abbrev pub misfitFound : ℕ → Option ℕ
 misfitFound k = cond (ltb k 48) (some k) none
