@@ -1,7 +1,7 @@
 -- One more character of a word, and that a word of digits gives the number that they read as: holding a number at 6 does not change whether a longer one is
 -- above 5.
 -- Assumes nothing.
-use Prim.Native.Nat.{ℕ, _+_, _*_, _-_, _≤_, _<_, min}
+use Prim.Native.Nat.{ℕ, _+_, _≤_, _<_, min}
 use mathlib.Core.Path.{_≡_, refl, _∙_}
 use mathlib.Core.Bool.{Bool, true, false, _||_, true≢false}
 use mathlib.Core.Option.{none, some}
@@ -12,12 +12,13 @@ use lib.Dec.{ltb}
 use lib.ListN.{length, drop, getD, drop-of-length-le}
 use lib.Seq.{drop-cons}
 use borrow.Author.Tests.{le-ltb, ltb-false}
+use Rattle.characters.specs.Digits.{longer}
 use Rattle.listing_lines.specs.Numerals.{readsFrom}
 use Rattle.level_word.specs.Words.{other, levelFrom, levelIn, Digits, LevelReads}
 
 -- the number with one more digit
 abbrev pub more : ℕ → ℕ → ℕ
-more n c = min 6 (n * 10 + (c - 48))
+more n c = min 6 (longer n c)
 
 pub other-false : (c : ℕ) → other c ≡ false → (48 ≤ c) × (c ≤ 57)
 unfolding other
@@ -56,7 +57,7 @@ unfolding levelFrom other
 held n [] d = refl
 held n (c ∷ cs) d =
     let e : more (min 6 n) c ≡ more n c = omega arith in
-    rw (le-ltb c 48 (d .0 .0), le-ltb 57 c (d .0 .1), e) (held (n * 10 + (c - 48)) cs (d .1))
+    rw (le-ltb c 48 (d .0 .0), le-ltb 57 c (d .0 .1), e) (held (longer n c) cs (d .1))
 
 pub level-reads : LevelReads
 level-reads w h d = not-empty w (λ e. omega arith) ∙ held 0 w d

@@ -1,7 +1,8 @@
 // The level that a word of decimal digits gives, of any length. Document 01, "Levels": a level above 5 is one that no reader has, so 6 stands for all
 // of them.
-ghost use Prim.Native.Nat.{_+_, _*_, _-_, _≤_, min};
+ghost use Prim.Native.Nat.{_≤_, min};
 ghost use mathlib.Core.Path.{_≡_};
+ghost use Rattle.characters.specs.Digits.{longer};
 ghost use Rattle.level_word.specs.Words.{other, levelIn, said};
 
 // What a word says.
@@ -42,7 +43,7 @@ fn other(c: u8) -> bool
 // A number with one more digit, 6 where it is above 5.
 fn with_digit(n: u32, c: u8) -> u32
     requires { ⌜ (n ≤ 6) × (48 ≤ c) ⌝ }
-    ensures { λ r. ⌜ r ≡ min 6 (n * 10 + (c - 48)) ⌝ }
+    ensures { λ r. ⌜ r ≡ min 6 (longer n c) ⌝ }
 {
     let more = n * 10 + (c - 48) as u32;
     if more < 6 { more } else { 6 }

@@ -338,7 +338,8 @@ fn at_most(number: u32, largest: u32, why: Refusal) -> Checked
     Checked::Accepted
 }
 
-// Whether the table's version is at most the level's, and neither 2's nor 3's condition holds: what nearly every table is, told by one word.
+// Whether the table's version is at most the level's, and neither 2's nor 3's condition holds: what nearly every table is, told by one `bool`.
+// Both callers ask it themselves and then `judge`: a function between would tell it through memory.
 fn surely_accepts(table: &[u8], known: Level) -> bool
     ensures { λ r. ⌜ (r ≡ true → judged (numberOf known) (now (table .entry)) ≡ accepted) ⌝ }
 {
