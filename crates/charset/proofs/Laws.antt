@@ -16,6 +16,10 @@ pub eighty-four : allowedBelow 256 ≡ 84
 unfolding allowedBelow allowed
 eighty-four = refl
 
+-- the ten that are left out, by their codes
+pub reserved-are : reserved ≡ 91 ∷ 93 ∷ 40 ∷ 41 ∷ 123 ∷ 125 ∷ 60 ∷ 62 ∷ 47 ∷ 37 ∷ []
+reserved-are = refl
+
 -- one code more
 pub allowed-more : (n : ℕ) → allowedBelow (n + 1) ≡ cond (allowed n) 1 0 + allowedBelow n
 unfolding allowedBelow

@@ -3,17 +3,11 @@ use Prim.Native.Nat.{ℕ}
 use mathlib.Core.Option.{Option, none, some}
 use lib.IntN.{ℤ, pos}
 use lib.Ieee.{Float, binary32, ofBits}
-use Rattle.name.specs.Refusals.{numberOf, placeOf}
-use Rattle.name.specs.declared.Place.{Place}
-use Rattle.name.specs.declared.Place.the-variants.{Nowhere, At}
-use Rattle.name.specs.declared.Verdict.{Verdict}
-use Rattle.name.specs.declared.Verdict.the-variants.{Accepted, Refused}
-use Rattle.name_lookup.specs.declared.Numbered.{Numbered}
-use Rattle.name_lookup.specs.declared.Numbered.the-variants.{Text, Refusal}
-use Rattle.name_strings.specs.declared.NumberedVersion.{NumberedVersion}
-use Rattle.name_strings.specs.declared.NumberedVersion.the-variants as version
+use Rattle.outcomes.specs.Outcomes.{Refusal, Outcome, refused, answered}
+use Rattle.name_search.specs.declared.Text.{Text}
+use Rattle.version_text.specs.Versions.{Figures}
 use Rattle.os2_style.specs.Style.{every, upwards, between}
-use Rattle.os2.specs.Outcomes.{integer, rights, position, sizes, Said, value, absent, not-known, Outcome, refused, answered}
+use Rattle.os2_answers.specs.Values.{integer, rights, position, sizes, Said, value, absent, not-known}
 use Rattle.gyalvindor.specs.declared.GvRefusal.{GvRefusal}
 use Rattle.gyalvindor.specs.declared.GvText.{GvText}
 use Rattle.gyalvindor.specs.declared.GvVersion.{GvVersion}
@@ -33,34 +27,28 @@ refusalWords n (some k) = record { number = n; carries = 1; carried = k }
 abbrev pub noRefusal : GvRefusal
 noRefusal = refusalWords 0 none
 
--- ---- 'name' tables
+-- a refusal as the code tells it
+abbrev pub toldWords : Refusal → GvRefusal
+toldWords r = refusalWords (r .number) (r .carried)
 
--- the record or the tag that a refusal carries
-abbrev pub carriedAt : Place → Option ℕ
-carriedAt Nowhere = none
-carriedAt (At i) = some i
-
--- what the check of a table says
-unfoldable pub verdictWords : Verdict → GvRefusal
-verdictWords Accepted = noRefusal
-verdictWords (Refused r) = refusalWords (numberOf r) (carriedAt (placeOf r))
-
--- a string's start and length
-unfoldable pub textWords : Numbered → GvText
-textWords (Text s m) = record { refusal = noRefusal; start = s; length = m }
-textWords (Refusal n p) = record { refusal = refusalWords n (carriedAt p); start = 0; length = 0 }
-
--- the figures before and after the period
-unfoldable pub versionWords : NumberedVersion → GvVersion
-versionWords (version.Number a b) = record { refusal = noRefusal; major = a; minor = b }
-versionWords (version.Refusal n p) = record { refusal = refusalWords n (carriedAt p); major = 0; minor = 0 }
-
--- ---- 'OS/2' tables
-
--- the refusal in what the check, the reader or the writer says
+-- the refusal in what a check, a question or the writer says
 unfoldable pub outcomeRefusal : {A : Type 0} → Outcome A → GvRefusal
 outcomeRefusal (refused n c) = refusalWords n c
 outcomeRefusal (answered a) = noRefusal
+
+-- ---- 'name' tables
+
+-- a string's start and length
+unfoldable pub textWords : Outcome Text → GvText
+textWords (refused n c) = record { refusal = refusalWords n c; start = 0; length = 0 }
+textWords (answered x) = record { refusal = noRefusal; start = x .start; length = x .len }
+
+-- the figures before and after the period
+unfoldable pub versionWords : Outcome Figures → GvVersion
+versionWords (refused n c) = record { refusal = refusalWords n c; major = 0; minor = 0 }
+versionWords (answered f) = record { refusal = noRefusal; major = f .major; minor = f .minor }
+
+-- ---- 'OS/2' tables
 
 -- the members of an answer of any kind
 pub record Members : Type 0 where

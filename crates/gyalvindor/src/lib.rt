@@ -1,28 +1,29 @@
 // The reader and the writer for C and Rust: the functions of the static library, each answering in plain numbers.
 // Document 01, whole; `include/gyalvindor.h` says the same to a C programmer.
-// Relies on `name`, `any_lookup` and `name_strings`, on `os2` and `os2_writer`, which answer; here an answer is put into words of C.
+// Relies on `name`, `name_lookup` and `name_strings`, on `os2` and `os2_writer`, which answer; here an answer is put into words of C.
 ghost use mathlib.Core.Path.{_≡_};
-ghost use mathlib.Core.Option.{none, some};
 ghost use lib.ListN.{length};
+ghost use Rattle.outcomes.specs.Outcomes.{answered, refusalOf};
+ghost use Rattle.name_layout.specs.Keys.{keyFrom};
 ghost use Rattle.name.specs.Acceptance.{checkOf};
-ghost use Rattle.name_lookup.specs.Answers.{said};
-ghost use Rattle.any_lookup.specs.Lookups.{lookupAny};
-ghost use Rattle.name_strings.specs.Names.{postscriptOf, saidName};
-ghost use Rattle.name_strings.specs.Versions.{versionOf, saidVersion};
+ghost use Rattle.name.specs.Refusals as name;
+ghost use Rattle.name_lookup.specs.Answers.{lookupOf, saidLookup};
+ghost use Rattle.name_answers.specs.Names.{postscriptOf, saidName};
+ghost use Rattle.name_answers.specs.Versions.{versionOf, saidVersion};
 ghost use Rattle.os2_style.specs.Style.{saidSizes};
-ghost use Rattle.os2.specs.Outcomes.{answered, value, sizes};
-ghost use Rattle.os2.specs.Acceptance.{checked};
-ghost use Rattle.os2.specs.Asking.{ask};
+ghost use Rattle.os2_acceptance.specs.Acceptance.{checked};
+ghost use Rattle.os2_acceptance.specs.Replies as acceptance;
+ghost use Rattle.os2_answers.specs.Values.{value, sizes};
+ghost use Rattle.os2_answers.specs.Asking.{ask};
 ghost use Rattle.os2.specs.Replies as reader;
-ghost use Rattle.os2.specs.Writing.{write, roomAfter};
+ghost use Rattle.os2_store.specs.Writing.{write, roomAfter};
 ghost use Rattle.os2_writer.specs.Replies as writer;
 ghost use Rattle.os2_writer.specs.Rewriting.{rewritten, roomRewritten};
-ghost use Rattle.gyalvindor.specs.Words.{refusalWords, carriedAt, verdictWords, textWords, versionWords, outcomeRefusal, numberWords, rightsWords, styleWords, opticalWords, writtenWords};
-use name::Place;
+ghost use Rattle.gyalvindor.specs.Words.{toldWords, outcomeRefusal, textWords, versionWords, numberWords, rightsWords, styleWords, opticalWords, writtenWords};
 use name::Verdict;
-use name_lookup::Numbered;
-use name_strings::NumberedVersion;
-use os2::Carried;
+use name_lookup::LookedUp;
+use name_strings::PostscriptAnswer;
+use name_strings::VersionAnswer;
 use os2::Checked;
 use os2::OpticalAnswer;
 use os2::OpticalReply;
@@ -32,10 +33,12 @@ use os2::RightsAnswer;
 use os2::RightsReply;
 use os2::StyleAnswer;
 use os2::StyleReply;
+use os2_fields::FIELD_COUNT;
 use os2_style::OpticalSizes;
 use os2_writer::Rewritten;
-use os2_writer::WriteRefusal;
 use os2_writer::Written;
+use outcomes::Carried;
+use outcomes::Told;
 
 // A refusal: document 01's number, 0 for none; whether it carries anything, 1 or 0; and what it carries, 0 for nothing.
 #[repr(C)]
@@ -213,7 +216,7 @@ impl GvWritten {
 // Whether a 'name' table is accepted.
 #[no_mangle]
 pub extern "C" fn gv_name_check(table: &[u8]) -> GvRefusal
-    ensures { λ r. ⌜ r ≡ verdictWords (checkOf (now (table .entry))) ⌝ }
+    ensures { λ r. ⌜ r ≡ outcomeRefusal (checkOf (now (table .entry))) ⌝ }
 {
     verdict_words(name::check(table))
 }
@@ -227,25 +230,25 @@ pub extern "C" fn gv_name_lookup(
     language: u32,
     name: u32,
 ) -> GvText
-    ensures { λ r. ⌜ r ≡ textWords (said (lookupAny (now (table .entry)) platform encoding language name)) ⌝ }
+    ensures { λ r. ⌜ r ≡ textWords (lookupOf (now (table .entry)) (keyFrom platform encoding language name)) ⌝ }
 {
-    text_words(any_lookup::lookup_any(table, platform, encoding, language, name).said())
+    found_words(name_lookup::lookup(table, platform, encoding, language, name))
 }
 
 // The PostScript name of a 'name' table.
 #[no_mangle]
 pub extern "C" fn gv_name_postscript(table: &[u8]) -> GvText
-    ensures { λ r. ⌜ r ≡ textWords (saidName (postscriptOf (now (table .entry)))) ⌝ }
+    ensures { λ r. ⌜ r ≡ textWords (postscriptOf (now (table .entry))) ⌝ }
 {
-    text_words(name_strings::postscript(table).said())
+    named_words(name_strings::postscript(table))
 }
 
 // The version number of a 'name' table.
 #[no_mangle]
 pub extern "C" fn gv_name_version(table: &[u8]) -> GvVersion
-    ensures { λ r. ⌜ r ≡ versionWords (saidVersion (versionOf (now (table .entry)))) ⌝ }
+    ensures { λ r. ⌜ r ≡ versionWords (versionOf (now (table .entry))) ⌝ }
 {
-    version_words(name_strings::version(table).said())
+    version_words(name_strings::version(table))
 }
 
 // Whether a level accepts an 'OS/2' table.
@@ -314,7 +317,7 @@ pub extern "C" fn gv_os2_optical_sizes(table: &[u8], level: u32) -> GvOptical
 
 // Writes the table of 48 whole numbers into lent room.
 #[no_mangle]
-pub extern "C" fn gv_os2_write(numbers: &[i64; 48], room: &mut [u8]) -> GvWritten
+pub extern "C" fn gv_os2_write(numbers: &[i64; FIELD_COUNT], room: &mut [u8]) -> GvWritten
     ensures { λ r. ⌜ (r ≡ writtenWords (write (now (numbers .entry)) (length (now (room .entry))))) × (now (room .exit) ≡ roomAfter (now (numbers .entry)) (now (room .entry))) ⌝ }
 {
     written_words(os2_writer::write(*numbers, room))
@@ -330,100 +333,74 @@ pub extern "C" fn gv_os2_rewrite(table: &[u8], room: &mut [u8]) -> GvWritten
 
 // ---- refusals in words
 
-// A refusal that carries nothing.
-fn bare(number: u32) -> GvRefusal
-    ensures { λ r. ⌜ r ≡ refusalWords number none ⌝ }
+fn refusal_words(why: Told) -> GvRefusal
+    ensures { λ r. ⌜ r ≡ toldWords (refusalOf why) ⌝ }
 {
-    GvRefusal {
-        number,
-        carries: 0,
-        carried: 0,
-    }
-}
-
-// A refusal that carries a number.
-fn carrying(number: u32, carried: usize) -> GvRefusal
-    ensures { λ r. ⌜ r ≡ refusalWords number (some carried) ⌝ }
-{
-    GvRefusal {
-        number,
-        carries: 1,
-        carried,
-    }
-}
-
-// A refusal of a 'name' table.
-fn at_place(number: u32, place: Place) -> GvRefusal
-    ensures { λ r. ⌜ r ≡ refusalWords number (carriedAt place) ⌝ }
-{
-    match place {
-        Place::Nowhere => bare(number),
-        Place::At(at) => carrying(number, at),
-    }
-}
-
-// A refusal of an 'OS/2' table or question.
-fn unread(why: os2::Refusal) -> GvRefusal
-    ensures { λ r. ⌜ r ≡ refusalWords (reader.refusalNumber why) (reader.refusalCarries why) ⌝ }
-{
-    match why.carries() {
-        Carried::Nothing => bare(why.number()),
-        Carried::Rule(rule) => carrying(why.number(), rule as usize),
-    }
-}
-
-// A refusal of the writer.
-fn unwritten(why: WriteRefusal) -> GvRefusal
-    ensures { λ r. ⌜ r ≡ refusalWords (writer.refusalNumber why) (writer.refusalCarries why) ⌝ }
-{
-    let number = why.number();
-    match why {
-        WriteRefusal::NoVersion => bare(number),
-        WriteRefusal::NoRoom => bare(number),
-        WriteRefusal::DoesNotFit(field) => carrying(number, field as usize),
-        WriteRefusal::RuleBroken(rule) => carrying(number, rule as usize),
+    let number = why.number;
+    let carried = why.carried;
+    match carried {
+        Carried::Nothing => GvRefusal {
+            number,
+            carries: 0,
+            carried: 0,
+        },
+        Carried::This(this) => GvRefusal {
+            number,
+            carries: 1,
+            carried: this,
+        },
     }
 }
 
 // ---- 'name' answers in words
 
 fn verdict_words(verdict: Verdict) -> GvRefusal
-    ensures { λ r. ⌜ r ≡ verdictWords verdict ⌝ }
+    ensures { λ r. ⌜ r ≡ outcomeRefusal (name.saidCheck verdict) ⌝ }
 {
     match verdict {
         Verdict::Accepted => NO_REFUSAL,
-        Verdict::Refused(why) => at_place(why.number(), why.place()),
+        Verdict::Refused(why) => refusal_words(why.told()),
     }
 }
 
-fn text_words(answer: Numbered) -> GvText
-    ensures { λ r. ⌜ r ≡ textWords answer ⌝ }
+fn found_words(found: LookedUp) -> GvText
+    ensures { λ r. ⌜ r ≡ textWords (saidLookup found) ⌝ }
 {
+    let answer = found.answer;
     match answer {
-        Numbered::Text(start, length) => GvText::new(NO_REFUSAL, start, length),
-        Numbered::Refusal(number, place) => GvText::new(at_place(number, place), 0, 0),
+        name_lookup::Answer::Found(text) => GvText::new(NO_REFUSAL, text.start, text.len),
+        name_lookup::Answer::Refused(why) => GvText::new(refusal_words(why.told()), 0, 0),
     }
 }
 
-fn version_words(answer: NumberedVersion) -> GvVersion
-    ensures { λ r. ⌜ r ≡ versionWords answer ⌝ }
+fn named_words(answer: PostscriptAnswer) -> GvText
+    ensures { λ r. ⌜ r ≡ textWords (saidName answer) ⌝ }
 {
     match answer {
-        NumberedVersion::Number(major, minor) => {
+        PostscriptAnswer::Name(text) => GvText::new(NO_REFUSAL, text.start, text.len),
+        PostscriptAnswer::Refused(why) => GvText::new(refusal_words(why.told()), 0, 0),
+    }
+}
+
+fn version_words(answer: VersionAnswer) -> GvVersion
+    ensures { λ r. ⌜ r ≡ versionWords (saidVersion answer) ⌝ }
+{
+    match answer {
+        VersionAnswer::Number { major, minor } => {
             GvVersion::new(NO_REFUSAL, major as u32, minor as u32)
         }
-        NumberedVersion::Refusal(number, place) => GvVersion::new(at_place(number, place), 0, 0),
+        VersionAnswer::Refused(why) => GvVersion::new(refusal_words(why.told()), 0, 0),
     }
 }
 
 // ---- 'OS/2' answers in words
 
 fn checked_words(checked: Checked) -> GvRefusal
-    ensures { λ r. ⌜ r ≡ outcomeRefusal (reader.saidCheck checked) ⌝ }
+    ensures { λ r. ⌜ r ≡ outcomeRefusal (acceptance.saidCheck checked) ⌝ }
 {
     match checked {
         Checked::Accepted => NO_REFUSAL,
-        Checked::Refused(why) => unread(why),
+        Checked::Refused(why) => refusal_words(why.told()),
     }
 }
 
@@ -431,7 +408,7 @@ fn number_words(reply: Reply) -> GvNumber
     ensures { λ r. ⌜ r ≡ numberWords (reader.saidReply reply) ⌝ }
 {
     match reply {
-        Reply::Refused(why) => GvNumber::new(unread(why), REFUSED, 0),
+        Reply::Refused(why) => GvNumber::new(refusal_words(why.told()), REFUSED, 0),
         Reply::Answered(answer) => match answer {
             os2::Answer::Value(value) => GvNumber::new(NO_REFUSAL, VALUE, value),
             os2::Answer::Absent => GvNumber::new(NO_REFUSAL, ABSENT, 0),
@@ -444,7 +421,7 @@ fn rights_words(reply: RightsReply) -> GvRights
     ensures { λ r. ⌜ r ≡ rightsWords (reader.saidRightsReply reply) ⌝ }
 {
     match reply {
-        RightsReply::Refused(why) => GvRights::new(unread(why), REFUSED, 0),
+        RightsReply::Refused(why) => GvRights::new(refusal_words(why.told()), REFUSED, 0),
         RightsReply::Answered(answer) => match answer {
             RightsAnswer::Value(rights) => GvRights::new(NO_REFUSAL, VALUE, rights.number()),
             RightsAnswer::Absent => GvRights::new(NO_REFUSAL, ABSENT, 0),
@@ -457,7 +434,7 @@ fn style_words(reply: StyleReply) -> GvStyle
     ensures { λ r. ⌜ r ≡ styleWords (reader.saidStyleReply reply) ⌝ }
 {
     match reply {
-        StyleReply::Refused(why) => GvStyle::new(unread(why), REFUSED, 0.0, 0.0),
+        StyleReply::Refused(why) => GvStyle::new(refusal_words(why.told()), REFUSED, 0.0, 0.0),
         StyleReply::Answered(answer) => match answer {
             StyleAnswer::Value(position) => {
                 GvStyle::new(NO_REFUSAL, VALUE, position.weight, position.width)
@@ -472,7 +449,13 @@ fn optical_words(reply: OpticalReply) -> GvOptical
     ensures { λ r. ⌜ r ≡ opticalWords (reader.saidOpticalReply reply) ⌝ }
 {
     match reply {
-        OpticalReply::Refused(why) => GvOptical::new(unread(why), REFUSED, NO_SIZES, 0.0, 0.0),
+        OpticalReply::Refused(why) => GvOptical::new(
+            refusal_words(why.told()),
+            REFUSED,
+            NO_SIZES,
+            0.0,
+            0.0,
+        ),
         OpticalReply::Answered(answer) => match answer {
             OpticalAnswer::Value(found) => sizes_words(found),
             OpticalAnswer::Absent => GvOptical::new(NO_REFUSAL, ABSENT, NO_SIZES, 0.0, 0.0),
@@ -500,7 +483,7 @@ fn written_words(done: Written) -> GvWritten
 {
     match done {
         Written::Size(size) => GvWritten::new(NO_REFUSAL, size),
-        Written::Refused(why) => GvWritten::new(unwritten(why), 0),
+        Written::Refused(why) => GvWritten::new(refusal_words(why.told()), 0),
     }
 }
 
@@ -509,7 +492,7 @@ fn rewritten_words(done: Rewritten) -> GvWritten
 {
     match done {
         Rewritten::Size(size) => GvWritten::new(NO_REFUSAL, size),
-        Rewritten::Unread(why) => GvWritten::new(unread(why), 0),
-        Rewritten::Unwritten(why) => GvWritten::new(unwritten(why), 0),
+        Rewritten::Unread(why) => GvWritten::new(refusal_words(why.told()), 0),
+        Rewritten::Unwritten(why) => GvWritten::new(refusal_words(why.told()), 0),
     }
 }

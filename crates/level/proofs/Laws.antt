@@ -9,7 +9,9 @@ use lib.ListN.{getD}
 use lib.Dec.{ltb}
 use borrow.Author.Needs.{needs}
 use borrow.Author.Tests.{lt-ltb, le-ltb, ltb-true, ltb-false}
-use Rattle.level.specs.Levels.{numberOf, levels, levelOf, level, refusal, said}
+use Rattle.outcomes.specs.Firsts.{when}
+use Rattle.outcomes.specs.Outcomes.{bare, answered, unless}
+use Rattle.level.specs.Levels.{newest, numberOf, levels, levelOf, said}
 use Rattle.level.specs.Sizes.{tableSize}
 use Rattle.level.specs.declared.Level.{Level}
 use Rattle.level.specs.declared.Level.the-variants.{Oldest, One, Two, Three, Four, Newest}
@@ -36,13 +38,13 @@ named (suc (suc (suc (suc (suc zero))))) h = refl
 named (suc (suc (suc (suc (suc (suc n)))))) h = absurd (omega arith)
 
 -- in document 01's numbers: refusal 1 above 5, and else the level of that number
-pub says : (n : ℕ) → said (levelOf n) ≡ cond (ltb 5 n) (refusal 1) (level n)
-unfolding levelOf
-says n = go (ltb 5 n) refl
+pub says : (n : ℕ) → said (levelOf n) ≡ unless (when (ltb newest n) (bare 1)) (answered n)
+unfolding levelOf when unless
+says n = go (ltb newest n) refl
   where
-    go : (t : Bool) → ltb 5 n ≡ t → said (cond t Refused (Known (getD levels n Newest))) ≡ cond t (refusal 1) (level n)
+    go : (t : Bool) → ltb newest n ≡ t → said (cond t Refused (Known (getD levels n Newest))) ≡ unless (when t (bare 1)) (answered n)
     go true e = refl
-    go false e = ap level (named n (ltb-false 5 n e))
+    go false e = ap answered (named n (ltb-false newest n e))
 
 pub known : (n : ℕ) (l : Level) → levelOf n ≡ Known l → (n ≤ 5) × (numberOf l ≡ n)
 unfolding levelOf

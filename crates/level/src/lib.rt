@@ -1,8 +1,9 @@
-// Document 01's levels: the highest 'OS/2' version that a reader knows, and the size of a version's table.
-// Document 01, "Levels", refusal 1, and the sizes of "The 'OS/2' fields".
+// Document 01's levels: the highest 'OS/2' version that a reader knows, the size of a version's table, and the level that a word of digits gives.
+// Document 01, "Levels", refusal 1, and the sizes of "The 'OS/2' fields". It relies on `outcomes` for a refusal's number and on `characters` for digits.
 ghost use mathlib.Core.Path.{_≡_};
 ghost use Rattle.level.specs.Levels.{numberOf, levelOf};
 ghost use Rattle.level.specs.Sizes.{tableSize};
+ghost use Rattle.level.specs.Words.{levelIn, saidWord};
 
 // A level, document 01's term. There are these six and no others.
 pub enum Level {
@@ -27,6 +28,17 @@ pub enum LevelAnswer {
     // Refusal 1: the number is above 5.
     Refused,
 }
+
+// What a word says as a level.
+pub enum LevelWord {
+    // The number that its digits read as, or 6 for any above 5: no reader has such a level, whichever it is.
+    Number(u32),
+    // The word is empty, or a character of it is no digit: it gives no number.
+    NoNumber,
+}
+
+// What `Number` holds for every number above 5.
+const ABOVE_NEWEST: u32 = 6;
 
 impl Level {
     pub const OLDEST: Level = Level::Oldest;
@@ -84,4 +96,24 @@ pub fn version_size(version: u32) -> usize
         return 96;
     }
     100
+}
+
+// The level that a word of decimal digits gives, however long it is.
+pub fn level_in(word: &[u8]) -> LevelWord
+    ensures { λ r. ⌜ saidWord r ≡ levelIn (now (word .entry)) ⌝ }
+{
+    if word.len() == 0 {
+        return LevelWord::NoNumber;
+    }
+    let mut n = 0;
+    let mut i = 0;
+    while i < word.len() {
+        let c = word[i] as u16;
+        if !characters::is_digit(c) {
+            return LevelWord::NoNumber;
+        }
+        n = characters::with_digit(n, c, ABOVE_NEWEST);
+        i += 1;
+    }
+    LevelWord::Number(n)
 }

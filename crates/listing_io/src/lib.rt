@@ -3,12 +3,14 @@
 ghost use Prim.Native.Nat.{_+_, _≤_};
 ghost use lib.ListN.{length};
 ghost use mathlib.Core.Path.{_≡_};
+ghost use Rattle.lines.specs.Pieces.{lineRoom};
 ghost use Rattle.listing_io.specs.Inputs.{Within, behind};
 use libc::STDERR_FILENO;
 use libc::STDIN_FILENO;
 use libc::STDOUT_FILENO;
-use listing_lines::Line;
-use listing_lines::append;
+use lines::LINE_ROOM;
+use lines::Line;
+use lines::append;
 
 // What was read.
 pub enum Input {
@@ -75,10 +77,10 @@ fn read_from(fd: i32, path: &[u8], room: &mut [u8]) -> Input
 
 // Where the next line goes: behind what stands already, or at the start, once that is written out for want of room.
 pub fn room_behind(out: &[u8], end: usize) -> usize
-    requires { ⌜ (160 ≤ length (now out)) × (end ≤ length (now out)) ⌝ }
-    ensures { λ r. ⌜ (r + 160 ≤ length (now (out .entry))) × (r ≡ behind (length (now (out .entry))) end) ⌝ }
+    requires { ⌜ (lineRoom ≤ length (now out)) × (end ≤ length (now out)) ⌝ }
+    ensures { λ r. ⌜ (r + lineRoom ≤ length (now (out .entry))) × (r ≡ behind (length (now (out .entry))) end) ⌝ }
 {
-    if out.len() - end < 160 {
+    if out.len() - end < LINE_ROOM {
         write(&out[..end]);
         return 0;
     }

@@ -1,35 +1,33 @@
--- An accepted table is one that no test refuses; and what the tests leave, for those who read an accepted table.
+-- A table without a fault is one that no test refuses; and what that leaves, for those who read an accepted table.
 -- Assumes nothing.
-use Prim.Native.Nat.{ℕ, zero, suc, _+_, _-_, _≤_, _<_}
-use mathlib.Core.Path.{_≡_, refl}
-use mathlib.Core.Logic.{_↔_}
+use Prim.Native.Nat.{ℕ, zero, suc, _+_, _-_, _/_, _%_, _≤_, _<_}
+use mathlib.Core.Path.{_≡_, refl, sym, _∙_, ap}
+use mathlib.Core.Logic.{_⊎_, _↔_}
+use mathlib.Core.Bool.{Bool, true, false}
+use mathlib.Core.Option.{Option, none, some}
 use mathlib.Core.List.{List}
-use mathlib.Core.Bool.{Bool, true, false, _||_}
-use native.Mathlib.Decide.{decLt, ℕ-discrete}
 use native.Mathlib.Omega.{arith}
+use lib.Dec.{leb}
 use lib.ListN.{length}
 use borrow.Author.Count.{below-more}
-use borrow.Author.Tests.{ltb-false, leb-false, lt-ltb, le-ltb, le-leb, lt-leb, eq-eqb, ne-eqb}
-use Rattle.name.specs.declared.Verdict.the-variants.{Accepted}
-use Rattle.name.specs.Layout.{format, count, recordAt, platform, language, textAt, recordsEnd, tagCount, tagAt, tagsEnd, stringEnd, keyOf}
-use Rattle.name.specs.Acceptance.{_then_, firstOf, tooShort, otherFormat, recordsPass, tagsPass, misplaced, stringPasses, forbidden, languageRefused, notAbove, layoutFault, recordFault, tagFault, checkOf}
-use Rattle.name.specs.Steps.{Framed, Faultless}
-use Rattle.name.proofs.Firsts.{passed, then-accepted, when-accepted, first-accepted}
-use Rattle.name.proofs.Layouts.{format-0}
+use Rattle.bigendian.specs.Numbers.{number, Bytes}
+use Rattle.outcomes.specs.Firsts.{when}
+use Rattle.outcomes.specs.Outcomes.{Refusal, Outcome, refused, accepted, unless}
+use Rattle.outcomes.proofs.Laws.{when-none, then-none, passed, first-all, unless-answered, unless-refused, unless-own, Only, only-when, only-then, only-first}
+use Rattle.outcomes.proofs.Tests.{at-most}
+use Rattle.name_layout.specs.Layout.{format, count, storage, recordAt, textAt, recordsEnd, tagCount, tagAt, tagsEnd, stringEnd}
+use Rattle.name_layout.specs.Keys.{keyOf, packed}
+use Rattle.name_layout.proofs.Keys.{key-small, packed-order, key-language, text-halves}
+use Rattle.name.specs.declared.Refusal as code
+use Rattle.name.specs.declared.Verdict.{Verdict}
+use Rattle.name.specs.declared.Verdict.the-variants.{Accepted, Refused}
+use Rattle.name.specs.Refusals.{toldOf, saidCheck}
+use Rattle.name.specs.Acceptance.{stringPasses, languageRefused, notAbove, layoutFault, recordFault, tagFault, faults, checkOf}
+use Rattle.name.specs.Refusing.{Laid}
+use Rattle.name.specs.Steps.{Framed}
+use Rattle.name.proofs.Tests.{long, format-known, records-within, tags-within, storage-placed, string-fits, above, language-below}
 
-pub or-false : (a b : Bool) → ((a || b) ≡ false) ↔ ((a ≡ false) × (b ≡ false))
-or-false false b = (λ e. (refl, e), λ p. p .1)
-or-false true b = (λ e. let z : _≡_ {A = ℕ} 0 1 = cc in absurd (omega arith), λ p. p .0)
-
--- none of 10 to 14
-pub record Laid (t : List ℕ) : Type 0 where
-  pub short : tooShort t ≡ false
-  pub format : otherFormat t ≡ false
-  pub records : recordsPass t ≡ false
-  pub tags : tagsPass t ≡ false
-  pub storage : misplaced t ≡ false
-
--- none of 15, 18, 17
+-- none of 15, 18, 17, by their tests
 pub record Sound (t : List ℕ) (i : ℕ) : Type 0 where
   pub string : stringPasses t (textAt i) ≡ false
   pub language : languageRefused t i ≡ false
@@ -39,138 +37,117 @@ pub record Sound (t : List ℕ) (i : ℕ) : Type 0 where
 pub record Passed (t : List ℕ) : Type 0 where
   pub laid : Laid t
   pub sound : (i : ℕ) → i < count t → Sound t i
-  pub tags : (i : ℕ) → i < tagCount t → stringPasses t (tagAt t i) ≡ false
+  pub tags : (i : ℕ) → i < tagCount t → stringEnd t (tagAt t i) ≤ length t
+
+abbrev pub Low : Refusal → Type 0
+Low r = r .number ≤ 18
 
 module _ (t : List ℕ) where
-  pub layout-accepted : (layoutFault t ≡ Accepted) ↔ Laid t
+  pub layout-none : (layoutFault t ≡ none) ↔ Laid t
   unfolding layoutFault
-  layout-accepted = (
+  layout-none = (
     (λ e.
         let a = passed _ _ _ .0 e in
         let b = passed _ _ _ .0 (a .1) in
         let c = passed _ _ _ .0 (b .1) in
         let d = passed _ _ _ .0 (c .1) in
-        record { short = a .0; format = b .0; records = c .0; tags = d .0; storage = when-accepted _ _ .0 (d .1) }),
+        record {
+          long = long t .0 (a .0);
+          known = format-known t .0 (b .0);
+          records = records-within t .0 (c .0);
+          tags = tags-within t .0 (d .0);
+          placed = storage-placed t .0 (when-none _ _ .0 (d .1));
+        }),
     λ l.
-        passed _ _ _ .1 (
-          l .short,
-          passed _ _ _ .1 (
-            l .format,
-            passed _ _ _ .1 (
-              l .records,
-              passed _ _ _ .1 (
-                l .tags,
-                when-accepted _ _ .1 (l .storage),
-              ),
-            ),
-          ),
-        ),
+        let e = when-none _ _ .1 (storage-placed t .1 (l .placed)) in
+        let d = passed _ _ _ .1 (tags-within t .1 (l .tags), e) in
+        let c = passed _ _ _ .1 (records-within t .1 (l .records), d) in
+        passed _ _ _ .1 (long t .1 (l .long), passed _ _ _ .1 (format-known t .1 (l .known), c)),
   )
 
-  pub record-accepted : (i : ℕ) → (recordFault t i ≡ Accepted) ↔ Sound t i
+  pub record-none : (i : ℕ) → (recordFault t i ≡ none) ↔ Sound t i
   unfolding recordFault
-  record-accepted i = (
+  record-none i = (
     (λ e.
         let a = passed _ _ _ .0 e in
         let b = passed _ _ _ .0 (a .1) in
-        let c = when-accepted _ _ .0 (b .1) in
+        let c = when-none _ _ .0 (b .1) in
         record { string = search; language = search; order = search }),
-    λ s. passed _ _ _ .1 (search, passed _ _ _ .1 (search, when-accepted _ _ .1 search)),
+    λ s. passed _ _ _ .1 (search, passed _ _ _ .1 (search, when-none _ _ .1 search)),
   )
 
-  tag-accepted : (i : ℕ) → (tagFault t i ≡ Accepted) ↔ (stringPasses t (tagAt t i) ≡ false)
+  pub tag-none : (i : ℕ) → (tagFault t i ≡ none) ↔ (stringEnd t (tagAt t i) ≤ length t)
   unfolding tagFault
-  tag-accepted i = when-accepted _ _
+  tag-none i = (λ e. string-fits t _ .0 (when-none _ _ .0 e), λ h. when-none _ _ .1 (string-fits t _ .1 h))
 
-  pub check-accepted : (checkOf t ≡ Accepted) ↔ Passed t
-  unfolding checkOf
-  check-accepted = (
+  pub no-fault : (faults t ≡ none) ↔ Passed t
+  unfolding faults
+  no-fault = (
     (λ e.
-        let p = then-accepted _ _ .0 e in
-        let q = then-accepted _ _ .0 (p .1) in
+        let p = then-none _ _ .0 e in
+        let q = then-none _ _ .0 (p .1) in
         record {
-          laid = layout-accepted .0 (p .0);
-          sound = λ i h. record-accepted i .0 (first-accepted _ _ .0 (q .0) i h);
-          tags = λ i h. tag-accepted i .0 (first-accepted _ _ .0 (q .1) i h);
+          laid = layout-none .0 (p .0);
+          sound = λ i h. record-none i .0 (first-all _ _ .0 (q .0) i h);
+          tags = λ i h. tag-none i .0 (first-all _ _ .0 (q .1) i h);
         }),
     λ k.
-        then-accepted _ _ .1 (
-          layout-accepted .1 (k .laid),
-          then-accepted _ _ .1 (
-            first-accepted _ _ .1 (λ i h. record-accepted i .1 (k .sound i h)),
-            first-accepted _ _ .1 (λ i h. tag-accepted i .1 (k .tags i h)),
-          ),
-        ),
+        let r = first-all _ _ .1 (λ i h. record-none i .1 (k .sound i h)) in
+        let s = first-all _ _ .1 (λ i h. tag-none i .1 (k .tags i h)) in
+        then-none _ _ .1 (layout-none .1 (k .laid), then-none _ _ .1 (r, s)),
   )
 
-  -- ---- what a test leaves
+  -- the numbers are at most 18, so 20 and above come from a question itself
+  pub at-most-18 : Only Low (faults t)
+  unfolding faults layoutFault recordFault tagFault
+  at-most-18 =
+      only-then Low _ _ layout (only-then Low _ _ (only-first Low _ _ each) (only-first Low _ _ (λ i. low _ _ refl)))
+    where
+      low : (test : Bool) (r : Refusal) → leb (r .number) 18 ≡ true → Only Low (when test r)
+      low test r e = only-when Low test r (at-most (r .number) 18 .0 e)
 
-  pub long : tooShort t ≡ false → 6 ≤ length t
-  unfolding tooShort
-  long e = omega (arith, ltb-false, leb-false)
+      layout : Only Low (layoutFault t)
+      layout =
+          only-then Low _ _ (low _ _ refl) (only-then Low _ _ (low _ _ refl)
+          (only-then Low _ _ (low _ _ refl) (only-then Low _ _ (low _ _ refl) (low _ _ refl))))
 
-  pub records-within : recordsPass t ≡ false → recordsEnd t ≤ length t
-  unfolding recordsPass
-  records-within e = omega (arith, ltb-false, leb-false)
+      each : (i : ℕ) → Only Low (recordFault t i)
+      each i = only-then Low _ _ (low _ _ refl) (only-then Low _ _ (low _ _ refl) (low _ _ refl))
 
-  pub tags-within : tagsPass t ≡ false → tagsEnd t ≤ length t
-  unfolding tagsPass
-  tags-within e = omega (arith, ltb-false, leb-false)
+  pub own : {A : Type 0} (o : Outcome A) (n : ℕ) {c : Option ℕ} → 18 < n → (unless (faults t) o ≡ refused n c) ↔ ((faults t ≡ none) × (o ≡ refused n c))
+  own o n l = unless-own (faults t) o (λ r e d. omega (arith, at-most-18 r e))
 
   pub framed : Laid t → Framed t
-  framed l = record { front = long (l .short); records = records-within (l .records); tags = tags-within (l .tags) }
+  framed l = record { front = l .long; records = l .records; tags = l .tags }
 
-  -- the first record follows none
-  first-above : notAbove t 0 ≡ false
-  unfolding notAbove
-  first-above = refl
+  -- ---- what the code's verdict says
 
-  pub above : (i : ℕ) → (notAbove t (suc i) ≡ false) ↔ (keyOf t i < keyOf t (suc i))
-  unfolding notAbove
-  above i = (
-    λ e. omega (arith, ltb-false, leb-false, simp (lt-ltb 0 (suc i) (omega arith), before) at e),
-    λ l. simp (lt-ltb 0 (suc i) (omega arith), before) (lt-leb _ _ l),
-  )
-    where
-      before : suc i - 1 ≡ i
-      before = omega arith
+  module _ {v : Verdict} (said : saidCheck v ≡ checkOf t) where
+    pub accepted-none : v ≡ Accepted → faults t ≡ none
+    unfolding unless
+    accepted-none e = unless-answered (faults t) accepted tt .0 (sym said ∙ ap saidCheck e) .0
 
-  -- a key is above the one before it, if there is one
-  pub order-ok : (i : ℕ) → (0 < i → keyOf t (i - 1) < keyOf t i) → notAbove t i ≡ false
-  order-ok zero f = first-above
-  order-ok (suc i) f =
-      let e : suc i - 1 ≡ i = omega arith in
-      above i .1 (rw e at (f (omega arith)))
+    pub refused-some : {r : code.Refusal} → v ≡ Refused r → faults t ≡ some (toldOf r)
+    unfolding unless
+    refused-some e = unless-refused (faults t) tt _ _ .0 (sym said ∙ ap saidCheck e)
 
--- ---- the languages, in either format
-module _ (format tags platform language : ℕ) where
-  pub language-plain : language < 32768 → forbidden format tags platform language ≡ false
-  unfolding forbidden
-  language-plain l = simp (lt-leb _ _ l)
+  -- ---- what an accepted table holds
 
-  pub language-0 : format ≡ 0 → 32768 ≤ language → (forbidden format tags platform language ≡ false) ↔ ((240 ≤ platform) × (platform ≤ 255))
-  unfolding forbidden
-  language-0 f l = (
-    λ e. let o = or-false _ _ .0 (simp (le-leb _ _ l, eq-eqb _ _ f) at e) in (ltb-false _ _ (o .0), ltb-false _ _ (o .1)),
-    λ p. simp (le-leb _ _ l, eq-eqb _ _ f) (or-false _ _ .1 (le-ltb _ _ (p .0), le-ltb _ _ (p .1))),
-  )
+  module _ (e : faults t ≡ none) where
+    pub accepted-framed : Framed t
+    accepted-framed = framed (no-fault .0 e .laid)
 
-  pub language-1 : (format ≡ 0 → ⊥) → 32768 ≤ language → (forbidden format tags platform language ≡ false) ↔ (language < 32768 + tags)
-  unfolding forbidden
-  language-1 f l = (
-    λ e. leb-false _ _ (simp (le-leb _ _ l, ne-eqb _ _ f) at e),
-    λ p. simp (le-leb _ _ l, ne-eqb _ _ f) (lt-leb _ _ p),
-  )
+    pub record-inside : (i : ℕ) → i < count t → recordAt i + 12 ≤ length t
+    record-inside i h = omega (arith, accepted-framed .records)
 
--- a language below 0x8000 plus the tag count is allowed: format 0 has no tags
-pub language-below : (t : List ℕ) (i : ℕ) → language t i < 32768 + tagCount t → languageRefused t i ≡ false
-unfolding languageRefused
-language-below t i h = side (decLt (language t i) 32768) (ℕ-discrete (format t) 0)
-  where
-    side : Dec (language t i < 32768) → Dec (format t ≡ 0) → forbidden (format t) (tagCount t) (platform t i) (language t i) ≡ false
-    side (yes l) f = language-plain _ _ _ _ l
-    side (no l) (yes f) = absurd (omega (arith, format-0 t f))
-    side (no l) (no f) = let g : 32768 ≤ language t i = omega arith in language-1 _ _ _ _ f g .1 h
+    -- by the code's numbers
+    pub keys-rise : Bytes t → (i : ℕ) → suc i < count t → packed (keyOf t i) < packed (keyOf t (suc i))
+    keys-rise b i h = packed-order (key-small t b i) (key-small t b (suc i)) .1 (above t i .0 (no-fault .0 e .sound (suc i) h .order))
+
+    pub string-inside : (i : ℕ) → i < count t → stringEnd t (textAt i) ≤ length t
+    string-inside i h = string-fits t (textAt i) .0 (no-fault .0 e .sound i h .string)
+
+-- ---- the quick pass
 
 module _ (t : List ℕ) where
   -- no 17 at the first n records
@@ -179,32 +156,23 @@ module _ (t : List ℕ) where
 
   -- none of 15 and 18 at the first n records
   abbrev pub FitAndSpeak : ℕ → Type 0
-  FitAndSpeak n = (i : ℕ) → i < n → (stringPasses t (textAt i) ≡ false) × (languageRefused t i ≡ false)
+  FitAndSpeak n = (i : ℕ) → i < n → (stringEnd t (textAt i) ≤ length t) × (languageRefused t i ≡ false)
 
   -- one record more, if there is one
-  pub fit-more : (n : ℕ) → FitAndSpeak (n - 1) → (0 < n → (stringPasses t (textAt (n - 1)) ≡ false) × (languageRefused t (n - 1) ≡ false)) → FitAndSpeak n
+  pub fit-more : (n : ℕ) → FitAndSpeak (n - 1) → (0 < n → (stringEnd t (textAt (n - 1)) ≤ length t) × (languageRefused t (n - 1) ≡ false)) → FitAndSpeak n
   fit-more zero f g = λ i h. absurd (omega arith)
   fit-more (suc n) f g = λ i h.
       let e : suc n - 1 ≡ n = omega arith in
-      below-more (λ k. (stringPasses t (textAt k) ≡ false) × (languageRefused t k ≡ false)) n (rw e at f) (rw e at (g (omega arith))) i (omega arith)
+      below-more (λ k. (stringEnd t (textAt k) ≤ length t) × (languageRefused t k ≡ false)) n (rw e at f) (rw e at (g (omega arith))) i (omega arith)
 
   -- both together leave no record's fault
-  pub faultless : (n : ℕ) → Rise n → FitAndSpeak n → Faultless t n
-  faultless n f g i h = record-accepted t i .1 (record { string = g i h .0; language = g i h .1; order = f i h })
+  pub faultless : (n : ℕ) → Rise n → FitAndSpeak n → (i : ℕ) → i < n → recordFault t i ≡ none
+  faultless n f g i h = record-none t i .1 (record { string = string-fits t (textAt i) .1 (g i h .0); language = g i h .1; order = f i h })
 
-  -- a string that keeps within the storage's room
-  pub string-fits : (at : ℕ) → stringEnd t at ≤ length t → stringPasses t at ≡ false
-  unfolding stringPasses
-  string-fits at h = le-ltb _ _ h
-
-module _ (t : List ℕ) where
-  -- ---- what an accepted table holds
-  module _ (e : checkOf t ≡ Accepted) where
-    pub accepted-framed : Framed t
-    accepted-framed = framed t (check-accepted t .0 e .laid)
-
-    pub record-inside : (i : ℕ) → i < count t → recordAt i + 12 ≤ length t
-    record-inside i h = omega (arith, accepted-framed .records)
-
-    pub keys-rise : (i : ℕ) → suc i < count t → keyOf t i < keyOf t (suc i)
-    keys-rise i h = above t i .0 (check-accepted t .0 e .sound (suc i) h .order)
+  -- a record by its key's number and its string's: the language in the key below 0x8000 plus the tag count, the string within the table
+  pub in-limits : Bytes t → (j : ℕ) {key text : ℕ} → key ≡ packed (keyOf t j) → text ≡ number 4 t (textAt j)
+      → (key / 65536 % 65536 < 32768 + tagCount t) × (storage t + (text / 65536 + text % 65536) ≤ length t)
+      → (stringEnd t (textAt j) ≤ length t) × (languageRefused t j ≡ false)
+  in-limits b j e f h =
+      let halves = text-halves t b (textAt j) in
+      (omega (arith, rw (f, halves .0, halves .1) at (h .1)), language-below t j (rw (e, key-language t b j) at (h .0)))

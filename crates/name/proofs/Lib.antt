@@ -1,5 +1,5 @@
-pub mod Firsts
-pub mod Layouts
+pub mod Tests
 pub mod Acceptances
-pub mod Keys
 pub mod Theorems
+pub mod Refusings
+pub mod Numbers

@@ -1,29 +1,14 @@
 -- Document 01, "Order", for 'name': "10, 11, 12, 13, 14; then records from 0 upward, at each 15, 18, 17; then tags from 0 upward, 16".
-use Prim.Native.Nat.{ℕ, zero, suc, _+_, _-_}
+use Prim.Native.Nat.{ℕ, _+_, _-_}
 use mathlib.Core.List.{List}
-use mathlib.Core.Bool.{Bool, cond, _&&_, _||_}
+use mathlib.Core.Bool.{Bool, cond, not, _&&_, _||_}
+use mathlib.Core.Option.{Option}
 use lib.ListN.{length}
 use lib.Dec.{ltb, leb, eqb}
-use Rattle.name.specs.Layout.{format, count, storage, platform, language, textAt, recordsEnd, tagCount, tagAt, tagsEnd, stringEnd, keyOf}
-use Rattle.name.specs.declared.Refusal.{Refusal}
-use Rattle.name.specs.declared.Refusal.the-variants.{TooShort, UnknownFormat, RecordsPastEnd, TagsPastEnd, StorageMisplaced, RecordString, TagString, KeyNotAbove, LanguageRefused}
-use Rattle.name.specs.declared.Verdict.{Verdict}
-use Rattle.name.specs.declared.Verdict.the-variants.{Accepted, Refused}
-
--- the first refusal of two
-infixr 20 _then_
-unfoldable pub _then_ : Verdict → Verdict → Verdict
-Accepted then v = v
-Refused r then v = Refused r
-
--- a refusal "given exactly when" the test holds
-unfoldable pub when : Bool → Refusal → Verdict
-when test r = cond test (Refused r) Accepted
-
--- "from 0 upward": the first refusal of f 0, f 1, .., f (n - 1)
-unfoldable pub firstOf : (ℕ → Verdict) → ℕ → Verdict
-firstOf f zero = Accepted
-firstOf f (suc n) = firstOf f n then f n
+use Rattle.outcomes.specs.Firsts.{when, _then_, firstOf}
+use Rattle.outcomes.specs.Outcomes.{Refusal, bare, carrying, Outcome, accepted, unless}
+use Rattle.name_layout.specs.Layout.{format, count, storage, platform, language, textAt, recordsEnd, tagCount, tagAt, tagsEnd, stringEnd}
+use Rattle.name_layout.specs.Keys.{keyOf, below}
 
 -- 10: "'name' under 6 bytes"
 unfoldable pub tooShort : List ℕ → Bool
@@ -61,31 +46,35 @@ languageRefused t i = forbidden (format t) (tagCount t) (platform t i) (language
 
 -- 17: "a record's key isn't above the one before it"
 unfoldable pub notAbove : List ℕ → ℕ → Bool
-notAbove t i = ltb 0 i && leb (keyOf t i) (keyOf t (i - 1))
+notAbove t i = ltb 0 i && not (below (keyOf t (i - 1)) (keyOf t i))
 
 -- "10, 11, 12, 13, 14"
-unfoldable pub layoutFault : List ℕ → Verdict
+unfoldable pub layoutFault : List ℕ → Option Refusal
 layoutFault t =
-    when (tooShort t) TooShort
-    then when (otherFormat t) UnknownFormat
-    then when (recordsPass t) RecordsPastEnd
-    then when (tagsPass t) TagsPastEnd
-    then when (misplaced t) StorageMisplaced
+    when (tooShort t) (bare 10)
+    then when (otherFormat t) (bare 11)
+    then when (recordsPass t) (bare 12)
+    then when (tagsPass t) (bare 13)
+    then when (misplaced t) (bare 14)
 
 -- "at each 15, 18, 17"
-unfoldable pub recordFault : List ℕ → ℕ → Verdict
+unfoldable pub recordFault : List ℕ → ℕ → Option Refusal
 recordFault t i =
-    when (stringPasses t (textAt i)) (RecordString i)
-    then when (languageRefused t i) (LanguageRefused i)
-    then when (notAbove t i) (KeyNotAbove i)
+    when (stringPasses t (textAt i)) (carrying 15 i)
+    then when (languageRefused t i) (carrying 18 i)
+    then when (notAbove t i) (carrying 17 i)
 
 -- "then tags from 0 upward, 16"
-unfoldable pub tagFault : List ℕ → ℕ → Verdict
-tagFault t i = when (stringPasses t (tagAt t i)) (TagString i)
+unfoldable pub tagFault : List ℕ → ℕ → Option Refusal
+tagFault t i = when (stringPasses t (tagAt t i)) (carrying 16 i)
 
 -- the whole order
-unfoldable pub checkOf : List ℕ → Verdict
-checkOf t =
+unfoldable pub faults : List ℕ → Option Refusal
+faults t =
     layoutFault t
     then firstOf (recordFault t) (count t)
     then firstOf (tagFault t) (tagCount t)
+
+-- what the check of a table says
+abbrev pub checkOf : List ℕ → Outcome (Unit {0})
+checkOf t = unless (faults t) accepted

@@ -1,5 +1,5 @@
-pub mod Layout
 pub mod Refusals
 pub mod Acceptance
 pub mod Acceptable
+pub mod Refusing
 pub mod Steps

@@ -1,37 +1,23 @@
-// The 'name' table: where its numbers stand, and whether it is accepted.
-// Document 01, "The 'name' layout", and the refusals 10 to 18 in their order. It relies on big-endian reads alone.
+// The check of a 'name' table: whether it is accepted, and why not.
+// Document 01, the refusals 10 to 18 in their order. It relies on the table's layout and on the shared words for a refusal.
 ghost use mathlib.Core.Path.{_≡_};
 ghost use mathlib.Core.Bool.{true, false};
-ghost use Prim.Native.Nat.{_+_, _*_, _/_, _%_, _≤_, _<_};
+ghost use mathlib.Core.Option.{none};
+ghost use Prim.Native.Nat.{_+_, _/_, _%_, _≤_, _<_};
 ghost use lib.ListN.{length};
-ghost use Rattle.name.specs.Layout.{format, count, storage, recordAt, recordsEnd, tagCount, tagsAt, keyNumber, keyOf, textOf};
-ghost use Rattle.name.specs.Refusals.{numberOf, placeOf};
-ghost use Rattle.name.specs.Acceptance.{firstOf, tooShort, otherFormat, recordsPass, tagsPass, misplaced, stringPasses, forbidden, languageRefused, notAbove, layoutFault, recordFault, tagFault, checkOf};
-ghost use Rattle.name.specs.Steps.{Framed, Faultless};
-use bigendian::read_u16;
-use bigendian::read_u32;
-
-// The bytes of the format, the count and the storage start.
-pub const HEADER_SIZE: usize = 6;
-
-// The bytes of a name record, and where its parts after the platform stand in it.
-pub const RECORD_SIZE: usize = 12;
-
-pub const ENCODING: usize = 2;
-
-pub const LANGUAGE: usize = 4;
-
-pub const NAME: usize = 6;
-
-pub const LENGTH: usize = 8;
-
-// A string's offset stands so many bytes after its length, in a record and in a tag.
-pub const OFFSET: usize = 2;
-
-// The bytes of the tag count, and of a tag.
-const TAG_COUNT_SIZE: usize = 2;
-
-const TAG_SIZE: usize = 4;
+ghost use Rattle.outcomes.specs.Firsts.{firstOf};
+ghost use Rattle.outcomes.specs.Outcomes.{refusalOf};
+ghost use Rattle.name_layout.specs.Layout.{count, recordAt, tagCount};
+ghost use Rattle.name.specs.Refusals.{toldOf, saidFault, saidCheck};
+ghost use Rattle.name.specs.Acceptance.{tooShort, otherFormat, recordsPass, tagsPass, misplaced, stringPasses, forbidden, languageRefused, notAbove, layoutFault, recordFault, tagFault, checkOf};
+ghost use Rattle.name.specs.Steps.{Framed};
+use name_layout::format_number;
+use name_layout::key_at;
+use name_layout::record_count;
+use name_layout::storage_start;
+use name_layout::tag_count;
+use outcomes::Carried;
+use outcomes::Told;
 
 // Why a table is refused, with the record or the tag that is at fault.
 pub enum Refusal {
@@ -55,64 +41,61 @@ pub enum Refusal {
     LanguageRefused(usize),
 }
 
-// What a refusal carries.
-pub enum Place {
-    Nowhere,
-    // A record's or a tag's number.
-    At(usize),
-}
-
 // What the check of a table says.
 pub enum Verdict {
     Accepted,
     Refused(Refusal),
 }
 
-// A string's start, from the table's first byte, and its length.
-pub struct Text {
-    pub start: usize,
-    pub len: usize,
-}
-
 impl Refusal {
-    // Document 01's number.
-    pub fn number(self) -> u32
-        ensures { λ r. ⌜ r ≡ numberOf self ⌝ }
+    // Document 01's number, and what it carries.
+    pub fn told(self) -> Told
+        ensures { λ r. ⌜ refusalOf r ≡ toldOf self ⌝ }
     {
         match self {
-            Refusal::TooShort => 10,
-            Refusal::UnknownFormat => 11,
-            Refusal::RecordsPastEnd => 12,
-            Refusal::TagsPastEnd => 13,
-            Refusal::StorageMisplaced => 14,
-            Refusal::RecordString(_) => 15,
-            Refusal::TagString(_) => 16,
-            Refusal::KeyNotAbove(_) => 17,
-            Refusal::LanguageRefused(_) => 18,
-        }
-    }
-
-    // What it carries.
-    pub fn place(self) -> Place
-        ensures { λ r. ⌜ r ≡ placeOf self ⌝ }
-    {
-        match self {
-            Refusal::TooShort => Place::Nowhere,
-            Refusal::UnknownFormat => Place::Nowhere,
-            Refusal::RecordsPastEnd => Place::Nowhere,
-            Refusal::TagsPastEnd => Place::Nowhere,
-            Refusal::StorageMisplaced => Place::Nowhere,
-            Refusal::RecordString(i) => Place::At(i),
-            Refusal::TagString(i) => Place::At(i),
-            Refusal::KeyNotAbove(i) => Place::At(i),
-            Refusal::LanguageRefused(i) => Place::At(i),
+            Refusal::TooShort => Told {
+                number: 10,
+                carried: Carried::Nothing,
+            },
+            Refusal::UnknownFormat => Told {
+                number: 11,
+                carried: Carried::Nothing,
+            },
+            Refusal::RecordsPastEnd => Told {
+                number: 12,
+                carried: Carried::Nothing,
+            },
+            Refusal::TagsPastEnd => Told {
+                number: 13,
+                carried: Carried::Nothing,
+            },
+            Refusal::StorageMisplaced => Told {
+                number: 14,
+                carried: Carried::Nothing,
+            },
+            Refusal::RecordString(i) => Told {
+                number: 15,
+                carried: Carried::This(i),
+            },
+            Refusal::TagString(i) => Told {
+                number: 16,
+                carried: Carried::This(i),
+            },
+            Refusal::KeyNotAbove(i) => Told {
+                number: 17,
+                carried: Carried::This(i),
+            },
+            Refusal::LanguageRefused(i) => Told {
+                number: 18,
+                carried: Carried::This(i),
+            },
         }
     }
 }
 
 // Whether a table is accepted, or its first refusal.
 pub fn check(table: &[u8]) -> Verdict
-    ensures { λ r. ⌜ r ≡ checkOf (now (table .entry)) ⌝ }
+    ensures { λ r. ⌜ saidCheck r ≡ checkOf (now (table .entry)) ⌝ }
 {
     if let Verdict::Refused(r) = layout_fault(table) {
         return Verdict::Refused(r);
@@ -125,7 +108,7 @@ pub fn check(table: &[u8]) -> Verdict
 
 // The first fault of the layout: 10, 11, 12, 13, 14.
 fn layout_fault(table: &[u8]) -> Verdict
-    ensures { λ r. ⌜ r ≡ layoutFault (now (table .entry)) ⌝ }
+    ensures { λ r. ⌜ saidFault r ≡ layoutFault (now (table .entry)) ⌝ }
 {
     if too_short(table) {
         return Verdict::Refused(Refusal::TooShort);
@@ -148,7 +131,7 @@ fn layout_fault(table: &[u8]) -> Verdict
 // The first fault of the records: none where the quick pass finds none, else the exact pass says.
 fn record_faults(table: &[u8]) -> Verdict
     requires { ⌜ Framed (now table) ⌝ }
-    ensures { λ r. ⌜ r ≡ firstOf (recordFault (now (table .entry))) (count (now (table .entry))) ⌝ }
+    ensures { λ r. ⌜ saidFault r ≡ firstOf (recordFault (now (table .entry))) (count (now (table .entry))) ⌝ }
 {
     if surely_sound(table) {
         return Verdict::Accepted;
@@ -160,7 +143,7 @@ fn record_faults(table: &[u8]) -> Verdict
 // format and no platform refuses. What a turn reads of a record the next turn looks at, so that each read stays one load of a whole word.
 fn surely_sound(table: &[u8]) -> bool
     requires { ⌜ Framed (now table) ⌝ }
-    ensures { λ r. ⌜ (r ≡ true → Faultless (now (table .entry)) (count (now (table .entry)))) ⌝ }
+    ensures { λ r. ⌜ (r ≡ true → firstOf (recordFault (now (table .entry))) (count (now (table .entry))) ≡ none) ⌝ }
 {
     let start = storage_start(table) as usize;
     if table.len() < start {
@@ -173,25 +156,26 @@ fn surely_sound(table: &[u8]) -> bool
     let mut text = 0;
     let mut i = 0;
     while i < count {
-        if doubtful(last, text, limit, room) {
+        if out_of_limits(last, text, limit, room) {
             return false;
         }
         let here = key_at(table, i);
-        if sinks(i, last, here) {
+        if out_of_order(i, last, here) {
             return false;
         }
-        text = read_u32(table, HEADER_SIZE + RECORD_SIZE * i + LENGTH);
+        text = name_layout::text_number(table, i);
         last = here;
         i += 1;
     }
-    if doubtful(last, text, limit, room) {
+    if out_of_limits(last, text, limit, room) {
         return false;
     }
     true
 }
 
-// Whether the language in a key is not below a limit, or a string's length and offset, read as one number, do not keep within some room.
-fn doubtful(key: u64, text: u32, limit: u64, room: usize) -> bool
+// The quick pass's test of a record's language and string: whether the language in a key is not below a limit, or a string's length and offset, read as
+// one number, do not keep within some room.
+fn out_of_limits(key: u64, text: u32, limit: u64, room: usize) -> bool
     ensures { λ r. ⌜ (r ≡ false → (key / 65536 % 65536 < limit) × (text / 65536 + text % 65536 ≤ room)) ⌝ }
 {
     if limit <= key / 65536 % 65536 {
@@ -200,8 +184,8 @@ fn doubtful(key: u64, text: u32, limit: u64, room: usize) -> bool
     room < (text / 65536 + text % 65536) as usize
 }
 
-// Whether record i, but for the first, has a key that is not above the one before it.
-fn sinks(i: usize, last: u64, here: u64) -> bool
+// The quick pass's test of two keys: whether record i, but for the first, has a key that is not above the one before it.
+fn out_of_order(i: usize, last: u64, here: u64) -> bool
     ensures { λ r. ⌜ (r ≡ false → 0 < i → last < here) ⌝ }
 {
     0 < i && here <= last
@@ -210,7 +194,7 @@ fn sinks(i: usize, last: u64, here: u64) -> bool
 // The first fault of the records, by looking at each in turn.
 fn exact_faults(table: &[u8]) -> Verdict
     requires { ⌜ Framed (now table) ⌝ }
-    ensures { λ r. ⌜ r ≡ firstOf (recordFault (now (table .entry))) (count (now (table .entry))) ⌝ }
+    ensures { λ r. ⌜ saidFault r ≡ firstOf (recordFault (now (table .entry))) (count (now (table .entry))) ⌝ }
 {
     let count = record_count(table) as usize;
     let mut i = 0;
@@ -226,7 +210,7 @@ fn exact_faults(table: &[u8]) -> Verdict
 // The first fault of the tags.
 fn tag_faults(table: &[u8]) -> Verdict
     requires { ⌜ Framed (now table) ⌝ }
-    ensures { λ r. ⌜ r ≡ firstOf (tagFault (now (table .entry))) (tagCount (now (table .entry))) ⌝ }
+    ensures { λ r. ⌜ saidFault r ≡ firstOf (tagFault (now (table .entry))) (tagCount (now (table .entry))) ⌝ }
 {
     let count = tag_count(table) as usize;
     let mut i = 0;
@@ -242,9 +226,9 @@ fn tag_faults(table: &[u8]) -> Verdict
 // The first fault of record i: 15, 18, 17.
 fn record_fault(table: &[u8], i: usize) -> Verdict
     requires { ⌜ Framed (now table) × (i < count (now table)) ⌝ }
-    ensures { λ r. ⌜ r ≡ recordFault (now (table .entry)) i ⌝ }
+    ensures { λ r. ⌜ saidFault r ≡ recordFault (now (table .entry)) i ⌝ }
 {
-    if string_passes(table, HEADER_SIZE + RECORD_SIZE * i + LENGTH) {
+    if string_passes(table, name_layout::text_at(table, i)) {
         return Verdict::Refused(Refusal::RecordString(i));
     }
     if language_refused(table, i) {
@@ -259,9 +243,9 @@ fn record_fault(table: &[u8], i: usize) -> Verdict
 // The fault of tag i: 16.
 fn tag_fault(table: &[u8], i: usize) -> Verdict
     requires { ⌜ Framed (now table) × (i < tagCount (now table)) ⌝ }
-    ensures { λ r. ⌜ r ≡ tagFault (now (table .entry)) i ⌝ }
+    ensures { λ r. ⌜ saidFault r ≡ tagFault (now (table .entry)) i ⌝ }
 {
-    if string_passes(table, tags_start(table) + TAG_SIZE * i) {
+    if string_passes(table, name_layout::tag_at(table, i)) {
         return Verdict::Refused(Refusal::TagString(i));
     }
     Verdict::Accepted
@@ -271,7 +255,7 @@ fn tag_fault(table: &[u8], i: usize) -> Verdict
 fn too_short(table: &[u8]) -> bool
     ensures { λ r. ⌜ r ≡ tooShort (now (table .entry)) ⌝ }
 {
-    table.len() < HEADER_SIZE
+    table.len() < 6
 }
 
 // Whether the format is neither 0 nor 1.
@@ -287,22 +271,15 @@ fn records_pass(table: &[u8]) -> bool
     requires { ⌜ 6 ≤ length (now table) ⌝ }
     ensures { λ r. ⌜ r ≡ recordsPass (now (table .entry)) ⌝ }
 {
-    table.len() < records_end(table)
+    table.len() < name_layout::records_end(table)
 }
 
 // Whether the tag count or the tags pass the table's end.
 fn tags_pass(table: &[u8]) -> bool
-    requires { ⌜ (6 ≤ length (now table)) × (recordsEnd (now table) ≤ length (now table)) ⌝ }
+    requires { ⌜ 6 ≤ length (now table) ⌝ }
     ensures { λ r. ⌜ r ≡ tagsPass (now (table .entry)) ⌝ }
 {
-    if format_number(table) == 0 {
-        return false;
-    }
-    let end = records_end(table);
-    if table.len() < end + TAG_COUNT_SIZE {
-        return true;
-    }
-    table.len() < end + TAG_COUNT_SIZE + TAG_SIZE * (read_u16(table, end) as usize)
+    table.len() < name_layout::tags_start(table) || table.len() < name_layout::tags_end(table)
 }
 
 // Whether the storage starts among the records and tags, or past the table's end.
@@ -311,7 +288,7 @@ fn storage_misplaced(table: &[u8]) -> bool
     ensures { λ r. ⌜ r ≡ misplaced (now (table .entry)) ⌝ }
 {
     let start = storage_start(table) as usize;
-    start < tags_start(table) + TAG_SIZE * (tag_count(table) as usize) || table.len() < start
+    start < name_layout::tags_end(table) || table.len() < start
 }
 
 // Whether the string of the length and offset at a place passes the table's end.
@@ -319,8 +296,8 @@ fn string_passes(table: &[u8], at: usize) -> bool
     requires { ⌜ (6 ≤ length (now table)) × (at + 4 ≤ length (now table)) ⌝ }
     ensures { λ r. ⌜ r ≡ stringPasses (now (table .entry)) at ⌝ }
 {
-    let start = storage_start(table) as usize + read_u16(table, at + OFFSET) as usize;
-    table.len() < start + read_u16(table, at) as usize
+    let start = name_layout::string_start(table, at);
+    table.len() < start + name_layout::string_length(table, at) as usize
 }
 
 // Whether the language number of record i is not allowed.
@@ -328,12 +305,12 @@ fn language_refused(table: &[u8], i: usize) -> bool
     requires { ⌜ Framed (now table) × (i < count (now table)) ⌝ }
     ensures { λ r. ⌜ r ≡ languageRefused (now (table .entry)) i ⌝ }
 {
-    let at = HEADER_SIZE + RECORD_SIZE * i;
+    let here = name_layout::record_at(table, i);
     forbidden(
         format_number(table),
         tag_count(table),
-        read_u16(table, at),
-        read_u16(table, at + LANGUAGE),
+        here.platform,
+        here.language,
     )
 }
 
@@ -355,94 +332,5 @@ fn not_above(table: &[u8], i: usize) -> bool
     requires { ⌜ recordAt i + 12 ≤ length (now table) ⌝ }
     ensures { λ r. ⌜ r ≡ notAbove (now (table .entry)) i ⌝ }
 {
-    0 < i && key_at(table, i) <= key_at(table, i - 1)
-}
-
-// ---- reads of a table, here and in the crates above
-
-// The table's format.
-pub fn format_number(table: &[u8]) -> u16
-    requires { ⌜ 6 ≤ length (now table) ⌝ }
-    ensures { λ r. ⌜ r ≡ format (now (table .entry)) ⌝ }
-{
-    read_u16(table, 0)
-}
-
-// The number of name records.
-pub fn record_count(table: &[u8]) -> u16
-    requires { ⌜ 6 ≤ length (now table) ⌝ }
-    ensures { λ r. ⌜ r ≡ count (now (table .entry)) ⌝ }
-{
-    read_u16(table, 2)
-}
-
-// Where the storage starts.
-pub fn storage_start(table: &[u8]) -> u16
-    requires { ⌜ 6 ≤ length (now table) ⌝ }
-    ensures { λ r. ⌜ r ≡ storage (now (table .entry)) ⌝ }
-{
-    read_u16(table, 4)
-}
-
-// Where the name records end.
-fn records_end(table: &[u8]) -> usize
-    requires { ⌜ 6 ≤ length (now table) ⌝ }
-    ensures { λ r. ⌜ r ≡ recordsEnd (now (table .entry)) ⌝ }
-{
-    HEADER_SIZE + RECORD_SIZE * (record_count(table) as usize)
-}
-
-// The number of language tags, none in format 0.
-fn tag_count(table: &[u8]) -> u16
-    requires { ⌜ Framed (now table) ⌝ }
-    ensures { λ r. ⌜ r ≡ tagCount (now (table .entry)) ⌝ }
-{
-    if format_number(table) == 0 {
-        return 0;
-    }
-    read_u16(table, records_end(table))
-}
-
-// Where the language tags start.
-fn tags_start(table: &[u8]) -> usize
-    requires { ⌜ 6 ≤ length (now table) ⌝ }
-    ensures { λ r. ⌜ r ≡ tagsAt (now (table .entry)) ⌝ }
-{
-    if format_number(table) == 0 {
-        return records_end(table);
-    }
-    records_end(table) + TAG_COUNT_SIZE
-}
-
-// The four numbers of a key as one.
-pub fn key_number(platform: u16, encoding: u16, language: u16, name: u16) -> u64
-    ensures { λ r. ⌜ r ≡ keyNumber platform encoding language name ⌝ }
-{
-    ((platform as u64 * 65536 + encoding as u64) * 65536 + language as u64) * 65536 + name as u64
-}
-
-// The key of record i as one number.
-pub fn key_at(table: &[u8], i: usize) -> u64
-    requires { ⌜ recordAt i + 12 ≤ length (now table) ⌝ }
-    ensures { λ r. ⌜ r ≡ keyOf (now (table .entry)) i ⌝ }
-{
-    let at = HEADER_SIZE + RECORD_SIZE * i;
-    key_number(
-        read_u16(table, at),
-        read_u16(table, at + ENCODING),
-        read_u16(table, at + LANGUAGE),
-        read_u16(table, at + NAME),
-    )
-}
-
-// The string of record i.
-pub fn text_of(table: &[u8], i: usize) -> Text
-    requires { ⌜ recordAt i + 12 ≤ length (now table) ⌝ }
-    ensures { λ r. ⌜ r ≡ textOf (now (table .entry)) i ⌝ }
-{
-    let at = HEADER_SIZE + RECORD_SIZE * i + LENGTH;
-    Text {
-        start: storage_start(table) as usize + read_u16(table, at + OFFSET) as usize,
-        len: read_u16(table, at) as usize,
-    }
+    0 < i && !(key_at(table, i - 1) < key_at(table, i))
 }

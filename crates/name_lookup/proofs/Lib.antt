@@ -1,3 +1,1 @@
-pub mod Halvings
-pub mod Lookups
 pub mod Theorems

@@ -1,103 +1,77 @@
--- "found by its four numbers exactly when a record has them": a scan of rising keys finds the one record that has the key, and equal keys have all four numbers equal.
+-- "found by its four numbers exactly when a record has them": what a search in an accepted table finds is the one record that has the key.
 -- Assumes nothing.
-use Prim.Native.Nat.{ℕ, _+_, _<_}
-use mathlib.Core.Path.{_≡_, refl}
+use Prim.Native.Nat.{ℕ}
+use mathlib.Core.Path.{_≡_, refl, sym, ap, _∙_}
+use mathlib.Core.Option.{Option, none, some}
 use mathlib.Core.List.{List}
 use native.Mathlib.Omega.{arith}
 use Rattle.bigendian.specs.Numbers.{Bytes}
-use Rattle.name.specs.declared.Place.{Place}
-use Rattle.name.specs.declared.Place.the-variants.{Nowhere, At}
-use Rattle.name.specs.declared.Verdict.{Verdict}
-use Rattle.name.specs.declared.Verdict.the-variants as verdict
-use Rattle.name.specs.Layout.{count, recordAt, keyNumber, keyOf, textOf, textAt, stringStart, stringLength}
-use Rattle.name.specs.Acceptance.{checkOf}
+use Rattle.outcomes.specs.Outcomes.{Refusal, bare, Outcome, refused, answered, unless, foundOr}
+use Rattle.outcomes.proofs.Laws.{unless-answered, found, not-found}
+use Rattle.name_layout.specs.Layout.{bytesOf}
+use Rattle.name_layout.specs.Keys.{Key}
+use Rattle.name.proofs.Acceptances.{own}
 use Rattle.name.specs.Acceptable.{Acceptable}
-use Rattle.name.specs.Refusals.{numberOf}
-use Rattle.name.specs.declared.Refusal as name-refusal
-use Rattle.name.proofs.Acceptances.{keys-rise}
-use Rattle.name.proofs.Keys.{word-lt, same-key}
-use Rattle.name.proofs.Layouts.{number-most}
-use Rattle.name.proofs.Theorems.{accepted-exactly-when}
-use Rattle.name_lookup.specs.declared.Answer.the-variants.{Found, NoRecord}
-use Rattle.name_lookup.specs.declared.Numbered.the-variants.{Text, Refusal}
-use Rattle.name_lookup.specs.Answers.{recordOf, lookupOf, said}
-use Rattle.name_lookup.specs.Exactly.{HasKey, FoundExactlyWhen, MissingExactlyWhen, WithinStorage}
-use Rattle.name_lookup.proofs.Halvings.{rising, scan-found, scan-none}
-use Rattle.name_lookup.proofs.Lookups.{record-in, lookup-refused, lookup-at, lookup-none}
-
-module _ (t : List ℕ) (b : Bytes t) (p e l n : ℕ) (he : e < 65536) (hl : l < 65536) (hn : n < 65536) where
-  -- a record with the key's number has the four numbers, and the other way round
-  has-key : (i : ℕ) → i < count t → keyOf t i ≡ keyNumber p e l n → HasKey t p e l n i
-  unfolding keyOf
-  has-key i h k =
-      let s = same-key (word-lt t b (recordAt i + 2)) (word-lt t b (recordAt i + 4)) (word-lt t b (recordAt i + 6)) he hl hn k in
-      record { inside = h; samePlatform = s .0; sameEncoding = s .1; sameLanguage = s .2; sameName = s .3 }
-
-  key-of : (i : ℕ) → HasKey t p e l n i → keyOf t i ≡ keyNumber p e l n
-  unfolding keyOf
-  key-of i h = omega arith
-
-  finds : checkOf t ≡ verdict.Accepted → (i : ℕ) → HasKey t p e l n i → lookupOf t p e l n ≡ Found (textOf t i)
-  unfolding recordOf
-  finds a i h =
-      lookup-at t p e l n refl a (scan-found _ _ i (count t) (h .inside) (key-of i h) (rising _ _ (keys-rise t a)))
-
-  misses : checkOf t ≡ verdict.Accepted → ((i : ℕ) → HasKey t p e l n i → ⊥) → lookupOf t p e l n ≡ NoRecord
-  unfolding recordOf
-  misses a f = lookup-none t p e l n refl a (scan-none _ _ (count t) (λ i h k. f i (has-key i h k)))
-
--- a record's string in document 01's numbers
-said-text : (t : List ℕ) (i : ℕ) → said (Found (textOf t i)) ≡ Text (stringStart t (textAt i)) (stringLength t (textAt i))
-unfolding textOf
-said-text t i = refl
+use Rattle.name.specs.Acceptance.{faults}
+use Rattle.name.proofs.Theorems.{acceptable}
+use Rattle.name.proofs.Refusings.{refused-exactly}
+use Rattle.name_search.specs.declared.Text.{Text}
+use Rattle.name_search.specs.Searches.{HasKey, recordWith, textOf}
+use Rattle.name_search.proofs.Finds.{find-has, find-at, find-none}
+use Rattle.name_lookup.specs.Answers.{lookupOf}
+use Rattle.name_lookup.specs.Exactly.{FoundExactlyWhen, MissingExactlyWhen, LookupRight, GivesItsBytes}
 
 pub found-exactly-when : FoundExactlyWhen lookupOf
-found-exactly-when t b p e l n hp he hl hn s m = (λ h. forth (checkOf t) (recordOf t p e l n) refl refl h, back)
+unfolding lookupOf foundOr
+found-exactly-when t b k x = (
+  λ h. let p = unless-answered _ _ x .0 h in (acceptable t .0 (p .0), search-found (recordWith t k) refl (p .1)),
+  λ p.
+      let a = acceptable t .1 (p .0) in
+      let y = p .1 in
+      unless-answered _ _ x .1 (a, found _ _ (find-at t k b a (y .1)) ∙ ap answered (sym (y .2))),
+)
   where
-    forth : (v : Verdict) (q : Place) → checkOf t ≡ v → q ≡ recordOf t p e l n → said (lookupOf t p e l n) ≡ Text s m
-        → Acceptable t × ((i : ℕ) × HasKey t p e l n i × (s ≡ stringStart t (textAt i)) × (m ≡ stringLength t (textAt i)))
-    forth (verdict.Refused r) q a f h =
-        let d = lookup-refused t p e l n a in
-        let z : _≡_ {A = ℕ} 0 1 = cc in absurd (omega arith)
-    forth verdict.Accepted Nowhere a f h =
-        let d = lookup-none t p e l n f a refl in
-        let z : _≡_ {A = ℕ} 0 1 = cc in absurd (omega arith)
-    forth verdict.Accepted (At i) a f h =
-        let d : Text (stringStart t (textAt i)) (stringLength t (textAt i)) ≡ Text s m = cc (lookup-at t p e l n f a refl, said-text t i) in
-        let k = record-in t p e l n f refl in
-        (accepted-exactly-when t b .0 a, (i, has-key t b p e l n he hl hn i (k .0) (k .1), cc, cc))
-
-    back : Acceptable t × ((i : ℕ) × HasKey t p e l n i × (s ≡ stringStart t (textAt i)) × (m ≡ stringLength t (textAt i))) → said (lookupOf t p e l n) ≡ Text s m
-    back x =
-        let y = x .1 in
-        rw (finds t b p e l n he hl hn (accepted-exactly-when t b .1 (x .0)) (y .0) (y .1), y .2, y .3) (said-text t (y .0))
-
--- the table's own refusals have other numbers
-not-20 : (r : name-refusal.Refusal) → numberOf r ≡ 20 → ⊥
-not-20 r e = omega (arith, number-most r)
+    search-found : (o : Option ℕ) → recordWith t k ≡ o → foundOr (bare 20) o (λ i. answered (textOf t i)) ≡ answered x
+        → (i : ℕ) × HasKey t k i × (x ≡ textOf t i)
+    search-found none f e = let z : _≡_ {A = ℕ} 0 1 = cc in absurd (omega arith)
+    search-found (some i) f e = (i, find-has t k f, cc)
 
 pub missing-exactly-when : MissingExactlyWhen lookupOf
-missing-exactly-when t b p e l n hp he hl hn = (λ h. forth (checkOf t) (recordOf t p e l n) refl refl h, back)
+unfolding lookupOf foundOr
+missing-exactly-when t b k = (
+  λ h. let p = own t _ 20 (omega arith) .0 h in (acceptable t .0 (p .0), find-none t k .0 (search-none (recordWith t k) refl (p .1))),
+  λ p. own t _ 20 (omega arith) .1 (acceptable t .1 (p .0), not-found _ _ (find-none t k .1 (p .1))),
+)
   where
-    forth : (v : Verdict) (q : Place) → checkOf t ≡ v → q ≡ recordOf t p e l n → said (lookupOf t p e l n) ≡ Refusal 20 Nowhere
-        → Acceptable t × ((i : ℕ) → HasKey t p e l n i → ⊥)
-    forth (verdict.Refused r) q a f h = absurd (not-20 r (cc (lookup-refused t p e l n a)))
-    forth verdict.Accepted (At i) a f h =
-        let d = lookup-at t p e l n f a refl in
-        let z : _≡_ {A = ℕ} 0 1 = cc in absurd (omega arith)
-    forth verdict.Accepted Nowhere a f h = (
-      accepted-exactly-when t b .0 a,
-      λ i k.
-          let d = finds t b p e l n he hl hn a i k in
-          let g = lookup-none t p e l n f a refl in
-          let z : _≡_ {A = ℕ} 0 1 = cc in omega arith,
-    )
+    search-none : (o : Option ℕ) → recordWith t k ≡ o → foundOr (bare 20) o (λ i. answered (textOf t i)) ≡ refused 20 none → recordWith t k ≡ none
+    search-none none f e = f
+    search-none (some i) f e = let z : _≡_ {A = ℕ} 0 1 = cc in absurd (omega arith)
 
-    back : Acceptable t × ((i : ℕ) → HasKey t p e l n i → ⊥) → said (lookupOf t p e l n) ≡ Refusal 20 Nowhere
-    back x = rw (misses t b p e l n he hl hn (accepted-exactly-when t b .1 (x .0)) (x .1))
+pub lookup-right : LookupRight lookupOf
+unfolding lookupOf unless
+lookup-right =
+    record {
+      refused = λ t k r f. rw (refused-exactly t r .1 f);
+      found = found-exactly-when;
+      missing = missing-exactly-when;
+    }
 
-pub within-storage : WithinStorage lookupOf
-within-storage t b p e l n hp he hl hn s m h =
-    let x = found-exactly-when t b p e l n hp he hl hn s m .0 h in
-    let y = x .1 in
-    omega (arith, x .0 .strings (y .0) (y .1 .inside), y .2, y .3)
+-- that leaves no other answer
+pub lookup-only : (f : List ℕ → Key → Outcome Text) → LookupRight f → (t : List ℕ) → Bytes t → (k : Key) → f t k ≡ lookupOf t k
+lookup-only f h t b k = at (faults t) refl (recordWith t k) refl
+  where
+    at : (o : Option Refusal) → faults t ≡ o → (q : Option ℕ) → recordWith t k ≡ q → f t k ≡ lookupOf t k
+    at (some r) e q d = let p = refused-exactly t r .0 e in h .refused t k r p ∙ sym (lookup-right .refused t k r p)
+    at none e (some i) d =
+        let p : Acceptable t × ((j : ℕ) × HasKey t k j × (textOf t i ≡ textOf t j)) = (acceptable t .0 e, (i, find-has t k d, refl)) in
+        h .found t b k (textOf t i) .1 p ∙ sym (found-exactly-when t b k (textOf t i) .1 p)
+    at none e none d =
+        let p : Acceptable t × ((i : ℕ) → HasKey t k i → ⊥) = (acceptable t .0 e, find-none t k .0 d) in
+        h .missing t b k .1 p ∙ sym (missing-exactly-when t b k .1 p)
+
+pub gives-its-bytes : GivesItsBytes lookupOf
+unfolding textOf bytesOf
+gives-its-bytes t b k x h =
+    let p = found-exactly-when t b k x .0 h in
+    let y = p .1 in
+    rw (y .2) (omega arith, p .0 .strings (y .0) (y .1 .inside), (y .0, y .1, refl))

@@ -1,98 +1,75 @@
--- The ways to an outcome, as the code takes them: refusal 1, the question's own, those of the check, and the answer.
+-- The ways to an outcome, as the code takes them: what needs no table, then the table, then the answer.
 -- Assumes nothing.
 use Prim.Native.Nat.{ℕ}
-use mathlib.Core.Path.{_≡_, refl, sym, _∙_}
-use mathlib.Core.Bool.{Bool, true, false}
+use mathlib.Core.Path.{_≡_, refl, sym, ap, _∙_}
 use mathlib.Core.Option.{Option, none}
 use mathlib.Core.List.{List}
-use native.Mathlib.Omega.{arith}
-use lib.Dec.{ltb}
 use borrow.Author.Tests.{lt-ltb, le-ltb}
-use Rattle.level.specs.Levels.{levelOf, numberOf}
+use lib.Dec.{ltb}
+use Rattle.outcomes.specs.Firsts.{when, _then_}
+use Rattle.outcomes.specs.Outcomes.{Refusal, bare, refused, answered, unless}
+use Rattle.outcomes.proofs.Laws.{then-none, passed, unless-answered, unless-refused}
+use Rattle.level.specs.Levels.{newest, numberOf, levelOf}
 use Rattle.level.specs.declared.Level.{Level}
 use Rattle.level.specs.declared.LevelAnswer.the-variants.{Known, Refused}
 use Rattle.level.proofs.Laws.{known, refused as level-refused}
-use Rattle.os2.specs.declared.Question.{Question}
-use Rattle.os2_fields.specs.Fields.{version}
-use Rattle.os2.specs.Outcomes.{Value, not-known, value, Outcome, refused, answered, accepted, unless, passing}
-use Rattle.os2.specs.Acceptance.{judged, checked}
-use Rattle.os2.specs.Questions.{outOfRange, ownRefusal, since, onWhole}
-use Rattle.os2.specs.Asking.{above, valueOf, bySince, given, opened, ask}
-use Rattle.os2.proofs.Laws.{zero-above}
+use Rattle.os2_acceptance.specs.Acceptance.{judged}
+use Rattle.os2_answers.specs.declared.Question.{Question}
+use Rattle.os2_answers.specs.Values.{Said}
+use Rattle.os2_answers.specs.Questions.{ownRefusal}
+use Rattle.os2_answers.specs.Asking.{given, beforeTable, ask}
+use Rattle.os2_answers.specs.Reading.{Asked}
 
-module _ (L : ℕ) (b : List ℕ) where
-  -- a level's number is its own
-  pub checked-known : {l : Level} → levelOf L ≡ Known l → judged (numberOf l) b ≡ checked L b
-  unfolding checked
-  checked-known {l} e = let k = known L l e in rw (k .1, le-ltb 5 L (k .0))
+-- what is opened at one number is at no other
+module _ (o : Option Refusal) (L l : ℕ) (e : answered l ≡ unless o (answered L)) where
+  opened-none : o ≡ none
+  opened-none = unless-answered o (answered L) l .0 (sym e) .0
 
-  pub checked-refused : levelOf L ≡ Refused → refused 1 none ≡ checked L b
-  unfolding checked
-  checked-refused e = rw (lt-ltb 5 L (level-refused L e))
+  opened-same : L ≡ l
+  opened-same = let p = unless-answered o (answered L) l .0 (sym e) .1 in cc
 
-  -- a table that the check accepts is one that neither 2 nor 3 turns away
-  pub open-checked : accepted ≡ checked L b → judged L b ≡ accepted
-  unfolding checked
-  open-checked = at (ltb 5 L)
-    where
-      at : (t : Bool) → accepted ≡ unless t 1 (judged L b) → judged L b ≡ accepted
-      at true e = let z : _≡_ {A = ℕ} 0 1 = cc in absurd (omega arith)
-      at false e = sym e
+module _ (L : ℕ) (q : Question) where
+  -- a number above 5, and else the question's own refusal
+  pub before-above : levelOf L ≡ Refused → refused 1 none ≡ unless (beforeTable L q) (answered L)
+  unfolding beforeTable unless when _then_
+  before-above e = rw (lt-ltb newest L (level-refused L e))
 
-  module _ (q : Question) where
-    pub opened-refused : levelOf L ≡ Refused → refused 1 none ≡ opened L b q
-    unfolding opened
-    opened-refused e = rw (lt-ltb 5 L (level-refused L e))
+  pub before-known : {l : Level} {o : Option Refusal} → levelOf L ≡ Known l → o ≡ ownRefusal q →
+      unless o (answered (numberOf l)) ≡ unless (beforeTable L q) (answered L)
+  unfolding beforeTable when _then_
+  before-known {l} e d = let k = known L l e in rw (k .1, le-ltb newest L (k .0), d)
 
-    module _ {l : Level} (known-level : levelOf L ≡ Known l) where
-      pub opened-own : {n : ℕ} {c : Option ℕ} → refused n c ≡ unless (outOfRange q) (ownRefusal q) accepted → refused n c ≡ opened L b q
-      unfolding opened
-      opened-own {n} {c} e = rw (le-ltb 5 L (known L l known-level .0)) (at (outOfRange q) e)
-        where
-          at : (t : Bool) → refused n c ≡ unless t (ownRefusal q) accepted → refused n c ≡ unless t (ownRefusal q) (judged L b)
-          at true d = d
-          at false d = let z : _≡_ {A = ℕ} 0 1 = cc in absurd (omega arith)
+  module _ (b : List ℕ) where
+    -- the first half's refusal is that of both; past it, the second half's verdict is
+    pub first-refused : {n : ℕ} {c : Option ℕ} → refused n c ≡ unless (beforeTable L q) (answered L) →
+        refused n c ≡ unless (beforeTable L q then judged L b) (answered L)
+    unfolding unless _then_
+    first-refused {n} {c} e = rw (unless-refused (beforeTable L q) L n c .0 (sym e))
 
-      pub opened-judged : accepted ≡ unless (outOfRange q) (ownRefusal q) accepted → {o : Outcome (Unit {0})} → o ≡ judged (numberOf l) b → o ≡ opened L b q
-      unfolding opened
-      opened-judged e {o} d = rw (le-ltb 5 L (known L l known-level .0)) (at (outOfRange q) e)
-        where
-          at : (t : Bool) → accepted ≡ unless t (ownRefusal q) accepted → o ≡ unless t (ownRefusal q) (judged L b)
-          at true f = let z : _≡_ {A = ℕ} 0 1 = cc in absurd (omega arith)
-          at false f = rw (known L l known-level .1) at d
+    pub second : {l : ℕ} → answered l ≡ unless (beforeTable L q) (answered L) →
+        unless (judged l b) (answered l) ≡ unless (beforeTable L q then judged L b) (answered L)
+    unfolding _then_
+    second {l} e = rw (← opened-same (beforeTable L q) L l e, opened-none (beforeTable L q) L l e)
 
-    -- a question that is opened is in its range, on a table that the level accepts
-    pub opened-parts : accepted ≡ opened L b q → (outOfRange q ≡ false) × (judged L b ≡ accepted)
-    unfolding opened
-    opened-parts = level (ltb 5 L)
-      where
-        own : (t : Bool) → accepted ≡ unless t (ownRefusal q) (judged L b) → (t ≡ false) × (judged L b ≡ accepted)
-        own true e = let z : _≡_ {A = ℕ} 0 1 = cc in absurd (omega arith)
-        own false e = (refl, sym e)
-
-        level : (t : Bool) → accepted ≡ unless t 1 (unless (outOfRange q) (ownRefusal q) (judged L b)) → (outOfRange q ≡ false) × (judged L b ≡ accepted)
-        level true e = let z : _≡_ {A = ℕ} 0 1 = cc in absurd (omega arith)
-        level false e = own (outOfRange q) e
-
-    -- what comes before the answer, and then the answer
-    pub asked-opened : {o : Outcome (Unit {0})} → o ≡ opened L b q → passing o (answered (given L b q)) ≡ ask L b q
+    -- a refusal of both halves is the outcome
+    pub asked-refused : {n : ℕ} {c : Option ℕ} → refused n c ≡ unless (beforeTable L q then judged L b) (answered L) → refused n c ≡ ask L b q
     unfolding ask
-    asked-opened e = rw e
+    asked-refused {n} {c} e =
+        sym (unless-refused (beforeTable L q then judged L b) (given L b q) n c .1 (unless-refused (beforeTable L q then judged L b) L n c .0 (sym e)))
 
-    -- a question on a field or a bit
-    pub given-part : onWhole q ≡ false → given L b q ≡ bySince (since q) L (version b) (valueOf b q)
-    unfolding given
-    given-part e = rw e
+    -- past both, the question is in its range, of an accepted table, and the answer is the outcome
+    module _ {l : ℕ} (e : answered l ≡ unless (beforeTable L q then judged L b) (answered L)) where
+      pub asked-parts : Asked l b q
+      unfolding beforeTable
+      asked-parts =
+          let p = then-none (beforeTable L q) (judged L b) .0 (opened-none (beforeTable L q then judged L b) L l e) in
+          record {
+            in-range = passed (ltb newest L) (bare 1) (ownRefusal q) .0 (p .0) .1;
+            opened = rw (opened-same (beforeTable L q then judged L b) L l e) at (p .1);
+          }
 
-    -- one of the other three, on a table that is not newer
-    pub given-newer : onWhole q ≡ true → above (version b) L ≡ true → not-known ≡ given L b q
-    unfolding given
-    given-newer e h = rw (e, h)
-
-    pub given-whole : onWhole q ≡ true → above (version b) L ≡ false → given L b q ≡ bySince (since q) L (version b) (valueOf b q)
-    unfolding given
-    given-whole e h = rw (e, h)
-
--- what came in with version 0 is there at every level and in every table
-pub since-first : (L w : ℕ) {v : Value} → bySince 0 L w v ≡ value v
-since-first L w = rw (zero-above L, zero-above w)
+      pub asked-answered : {a : Said} → a ≡ given l b q → answered a ≡ ask L b q
+      unfolding ask
+      asked-answered {a} d =
+          rw (← opened-same (beforeTable L q then judged L b) L l e) at
+          (ap answered d ∙ sym (unless-answered _ (answered (given l b q)) (given l b q) .1 (opened-none (beforeTable L q then judged L b) L l e, refl)))

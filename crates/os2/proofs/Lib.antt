@@ -1,12 +1,2 @@
-pub mod Laws
-pub mod Accepting
 pub mod Asked
-pub mod Settling
-pub mod Agreeing
-pub mod Trimming
 pub mod Saying
-pub mod Codes
-pub mod Images
-pub mod RoundTrips
-pub mod Refuting
-pub mod WriteSettling

@@ -1,11 +1,1 @@
-pub mod Outcomes
-pub mod Acceptance
-pub mod Questions
-pub mod Asking
 pub mod Replies
-pub mod Reading
-pub mod Settled
-pub mod Demands
-pub mod Examples
-pub mod Writing
-pub mod WriteSettled

@@ -39,6 +39,10 @@ catalogue =
     plain 96 2 5 ∷ plain 98 2 5 ∷
     []
 
+-- how many there are
+abbrev pub fieldCount : ℕ
+fieldCount = 48
+
 -- field number k; a number above 47 has no field
 unfoldable pub fieldOf : ℕ → Field
 fieldOf k = getD catalogue k (plain 0 0 0)

@@ -29,19 +29,19 @@ raw b k = rawIn b (fieldOf k)
 abbrev pub version : List ℕ → ℕ
 version b = raw b 0
 
--- an optical size of a version that has it
-abbrev pub opticalSize : List ℕ → Field → ℕ
-opticalSize b f = cond (ltb (version b) 5) 0 (rawIn b f)
+-- an optical size, of a version that has it
+abbrev pub opticalSize : ℕ → ℕ → ℕ
+opticalSize version size = cond (ltb version 5) 0 size
 
--- what the value rules look at: version, weight, width, fsType, fsSelection and the optical sizes
-unfoldable pub valuesOf : List ℕ → Values
-valuesOf b =
+-- what the value rules look at, from the number of each field: version, weight, width, fsType, fsSelection and the optical sizes
+unfoldable pub valuesOf : (ℕ → ℕ) → Values
+valuesOf number =
     record {
-      version = version b;
-      weight = raw b 2;
-      width = raw b 3;
-      fstype = raw b 4;
-      fsselection = raw b 31;
-      lower = opticalSize b (fieldOf 46);
-      upper = opticalSize b (fieldOf 47);
+      version = number 0;
+      weight = number 2;
+      width = number 3;
+      fstype = number 4;
+      fsselection = number 31;
+      lower = opticalSize (number 0) (number 46);
+      upper = opticalSize (number 0) (number 47);
     }

@@ -1,3 +1,4 @@
 pub mod Catalogue
 pub mod Fields
 pub mod Reading
+pub mod Examples

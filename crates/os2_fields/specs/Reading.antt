@@ -28,8 +28,9 @@ pub record Word (b : List ℕ) (f : Field) : Type 0 where
   pub lies : Lies b f
   pub two : f .width ≡ 2
 
--- a field of two bytes that lies within the size of version 5, and a table that has the size of its version
+-- a field of two bytes that came in with version 5 and lies within its size, and a table that has the size of its version
 pub record OpticalField (b : List ℕ) (f : Field) : Type 0 where
+  pub came : f .since ≡ 5
   pub sized : tableSize (version b) ≤ length b
   pub inside : f .offset + 2 ≤ tableSize 5
   pub two : f .width ≡ 2

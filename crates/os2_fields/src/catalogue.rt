@@ -2,7 +2,7 @@
 // Document 01, "The 'OS/2' fields", the table of fields.
 ghost use mathlib.Core.Path.{_≡_};
 ghost use Prim.Native.Nat.{_+_, _<_};
-ghost use Rattle.os2_fields.specs.Catalogue.{catalogue, fieldOf};
+ghost use Rattle.os2_fields.specs.Catalogue.{catalogue, fieldCount, fieldOf};
 
 // A field: where it stands, its width in bytes, whether it is signed, and the version that it came in with.
 pub struct Field {
@@ -11,6 +11,9 @@ pub struct Field {
     pub signed: bool,
     pub since: u8,
 }
+
+// How many fields there are.
+pub const FIELD_COUNT: usize = 48;
 
 // Fields that the reader uses by name: their numbers.
 pub const VERSION: usize = 0;
@@ -121,7 +124,7 @@ const PAGE_1_ENTRY: Field = Field {
 
 // Field number k.
 pub fn entry(k: usize) -> Field
-    requires { ⌜ k < 48 ⌝ }
+    requires { ⌜ k < fieldCount ⌝ }
     ensures { λ r. ⌜ r ≡ fieldOf k ⌝ }
 {
     let fields = entries();
@@ -157,13 +160,13 @@ pub fn code_pages(i: u32) -> Field
 }
 
 // The whole catalogue, for a loop over the fields.
-pub fn entries() -> [Field; 48]
+pub fn entries() -> [Field; FIELD_COUNT]
     ensures { λ r. ⌜ r ≡ catalogue ⌝ }
 {
     FIELDS
 }
 
-const FIELDS: [Field; 48] = [
+const FIELDS: [Field; FIELD_COUNT] = [
     // 0 version, 1 average width, 2 weight, 3 width, 4 fsType
     VERSION_ENTRY,
     Field {

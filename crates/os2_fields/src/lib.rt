@@ -7,11 +7,12 @@ ghost use lib.ListN.{length};
 ghost use lib.IntN.{pos};
 ghost use Rattle.level.specs.Sizes.{tableSize};
 ghost use Rattle.os2_rules.specs.Bits.{bit};
-ghost use Rattle.os2_fields.specs.Fields.{rawIn, version, signedOf, valueIn, opticalSize, valuesOf};
+ghost use Rattle.os2_fields.specs.Fields.{rawIn, raw, version, signedOf, valueIn, opticalSize, valuesOf};
 ghost use Rattle.os2_fields.specs.Reading.{Lies, Word, OpticalField};
 
 mod catalogue;
 
+pub use catalogue::FIELD_COUNT;
 pub use catalogue::FSSELECTION;
 pub use catalogue::FSSELECTION_ENTRY;
 pub use catalogue::FSTYPE;
@@ -36,7 +37,7 @@ use os2_rules::Values;
 // What the value rules look at.
 pub fn values(table: &[u8]) -> Values
     requires { ⌜ tableSize (version (now table)) ≤ length (now table) ⌝ }
-    ensures { λ r. ⌜ r ≡ valuesOf (now (table .entry)) ⌝ }
+    ensures { λ r. ⌜ r ≡ valuesOf (raw (now (table .entry))) ⌝ }
 {
     Values {
         version: version(table),
@@ -52,9 +53,10 @@ pub fn values(table: &[u8]) -> Values
 // An optical size, 0 where the version has none.
 fn optical_size(table: &[u8], f: Field) -> u16
     requires { ⌜ OpticalField (now table) f ⌝ }
-    ensures { λ r. ⌜ r ≡ opticalSize (now (table .entry)) f ⌝ }
+    ensures { λ r. ⌜ r ≡ opticalSize (version (now (table .entry))) (rawIn (now (table .entry)) f) ⌝ }
 {
-    if version(table) < 5 {
+    let since = f.since as u16;
+    if version(table) < since {
         return 0;
     }
     word(table, f)
@@ -66,6 +68,14 @@ pub fn version(table: &[u8]) -> u16
     ensures { λ r. ⌜ r ≡ version (now (table .entry)) ⌝ }
 {
     word(table, VERSION_ENTRY)
+}
+
+// The same as wide as a level's number, which it is held against.
+pub fn version_of(table: &[u8]) -> u32
+    requires { ⌜ 2 ≤ length (now table) ⌝ }
+    ensures { λ r. ⌜ r ≡ version (now (table .entry)) ⌝ }
+{
+    version(table) as u32
 }
 
 // A field of two bytes.

@@ -1,11 +1,9 @@
--- Pieces put one behind another, and a whole number without its sign.
+-- A whole number without its sign.
 -- Assumes nothing.
-use Prim.Native.Nat.{ℕ, suc, _+_, _-_, _^_, _≤_, _<_}
-use mathlib.Core.Path.{_≡_, ap, _∙_}
+use Prim.Native.Nat.{suc, _-_, _^_, _≤_, _<_}
+use mathlib.Core.Path.{_≡_}
 use mathlib.Core.Bool.{true, false, true≢false}
-use mathlib.Core.List.{List, _++_, append-assoc}
 use native.Mathlib.Omega.{arith}
-use lib.ListN.{take}
 use lib.IntN.{ℤ, pos, negsuc, natAbs, _-ℤ_}
 use lib.Dec.{T}
 use lib.Signed.{mag, ltZ, nonNeg}
@@ -13,20 +11,6 @@ use mir.Syntax.{w64}
 use mir.Val.{SFits, toZ, ofZ}
 use mir.Facts.{toZ-ofZ}
 use borrow.Author.Tests.{ltb-true, le-ltb}
-use Rattle.listing_lines.specs.Numerals.{Put}
-
--- ---- pieces
-
-module _ {old new : List ℕ} {at end m : ℕ} {p : List ℕ} where
-  -- a piece within more room, as another text of the same bytes
-  pub put-as : {n : ℕ} {q : List ℕ} → Put old at new end m p → m ≤ n → p ≡ q → Put old at new end n q
-  put-as h l e = record { ends = omega (arith, h .ends, l); holds = h .holds ∙ ap (λ (x : List ℕ). take at old ++ x) e }
-
-  -- a piece behind a piece
-  pub put-both : {last : List ℕ} {far n : ℕ} {q : List ℕ} → Put old at new end m p → Put new end last far n q → Put old at last far (m + n) (p ++ q)
-  put-both {q = q} h g = record { ends = omega (arith, h .ends, g .ends); holds = g .holds ∙ (ap (λ (x : List ℕ). x ++ q) (h .holds) ∙ append-assoc (take at old) p q) }
-
--- ---- signs
 
 module _ (z : ℤ) (fit : SFits w64 z) where
   -- the register's number back as it was

@@ -3,7 +3,7 @@
 use mathlib.Core.Path.{refl}
 use lib.Ieee.{ofInt, ofBits, div}
 use Rattle.os2_style.specs.Style.{percentOf}
-use Rattle.listing_lines.specs.Numerals.{digits, decimal}
+use Rattle.lines.specs.Numerals.{digits, decimal}
 use Rattle.os2_figures.specs.Figures.{signedText, fraction, figure, percentHundredths, pointsText}
 use Rattle.os2_figures.specs.Examples.{Signs, Points, fractionsRead, Fractions, Percents, SamePercents}
 

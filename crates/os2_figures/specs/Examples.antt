@@ -8,7 +8,7 @@ use lib.ListN.{length, getD, take}
 use lib.IntN.{pos, negsuc}
 use lib.Ieee.{binary32, div}
 use Rattle.characters.specs.Texts.{codes}
-use Rattle.listing_lines.specs.Numerals.{readsFrom}
+use Rattle.characters.specs.Digits.{readsFrom}
 use Rattle.os2_style.specs.Style.{float, percentOf}
 use Rattle.os2_figures.specs.Figures.{signedText, fraction, figure, percentHundredths, pointsText}
 

@@ -1,24 +1,24 @@
 // The values of the answers on an 'OS/2' table as text: whole numbers, rights, the style position and optical sizes.
 // Document 01, "Questions on an accepted OS/2 table"; docs/DECISIONS.md has how the figures read.
-// It relies on the pieces of lines of `listing_lines`. The callers are our own crates, which have the room.
+// It relies on the values of `os2_style` and on the pieces of lines of `lines`. The callers are our own crates, which have the room.
 ghost use Prim.Native.Nat.{_+_, _≤_};
 ghost use mathlib.Core.Path.{_≡_};
 ghost use mathlib.Core.List.{_++_};
 ghost use lib.ListN.{length};
 ghost use lib.IntN.{natAbs};
-ghost use Rattle.listing_lines.specs.Numerals.{Put};
+ghost use Rattle.lines.specs.Pieces.{Put};
 ghost use Rattle.os2_rules.specs.Rules.{WidthRule};
-ghost use Rattle.os2_style.specs.Style.{rightsNumber, saidSizes};
+ghost use Rattle.os2_style.specs.Style.{rightsNumber, sizesOf};
 ghost use Rattle.os2_figures.specs.Figures.{signedText, fraction, figure, rightsText, percentHundredths, positionText, pointsText, sizesText};
-use listing_lines::put;
-use listing_lines::put_numbered;
+ghost use Rattle.os2_figures.specs.Figures.{signedRoom, fractionRoom, figureRoom, rightsRoom, positionRoom, sizesRoom};
+use lines::put;
+use lines::put_numbered;
 use os2_style::EmbeddingRights;
-use os2_style::OpticalSizes;
 
 // Puts a whole number, with a minus sign where it is negative.
 pub fn put_signed(out: &mut [u8], at: usize, x: i64) -> usize
-    requires { ⌜ at + 21 ≤ length (now out) ⌝ }
-    ensures { λ r. ⌜ Put (now (out .entry)) at (now (out .exit)) r 21 (signedText x) ⌝ }
+    requires { ⌜ at + signedRoom ≤ length (now out) ⌝ }
+    ensures { λ r. ⌜ Put (now (out .entry)) at (now (out .exit)) r signedRoom (signedText x) ⌝ }
 {
     if x < 0 {
         return put_numbered(out, at, b"-", magnitude(x));
@@ -37,9 +37,9 @@ fn magnitude(x: i64) -> u64
 }
 
 // Puts the name of rights.
-pub fn put_rights_name(out: &mut [u8], at: usize, rights: EmbeddingRights) -> usize
-    requires { ⌜ at + 11 ≤ length (now out) ⌝ }
-    ensures { λ r. ⌜ Put (now (out .entry)) at (now (out .exit)) r 11 (rightsText (rightsNumber rights)) ⌝ }
+pub fn put_rights(out: &mut [u8], at: usize, rights: EmbeddingRights) -> usize
+    requires { ⌜ at + rightsRoom ≤ length (now out) ⌝ }
+    ensures { λ r. ⌜ Put (now (out .entry)) at (now (out .exit)) r rightsRoom (rightsText (rightsNumber rights)) ⌝ }
 {
     match rights {
         EmbeddingRights::Installable => put(out, at, b"installable"),
@@ -51,8 +51,8 @@ pub fn put_rights_name(out: &mut [u8], at: usize, rights: EmbeddingRights) -> us
 
 // Puts a weight and the percentage of a width class.
 pub fn put_position(out: &mut [u8], at: usize, weight: u16, width: u16) -> usize
-    requires { ⌜ (at + 82 ≤ length (now out)) × WidthRule width ⌝ }
-    ensures { λ r. ⌜ Put (now (out .entry)) at (now (out .exit)) r 82 (positionText weight width) ⌝ }
+    requires { ⌜ (at + positionRoom ≤ length (now out)) × WidthRule width ⌝ }
+    ensures { λ r. ⌜ Put (now (out .entry)) at (now (out .exit)) r positionRoom (positionText weight width) ⌝ }
 {
     let weight_end = put_numbered(out, at, b"", weight as u64);
     let start = put(out, weight_end, b" ");
@@ -70,28 +70,29 @@ fn percent_hundredths(width: u16) -> u64
     PERCENTS[i]
 }
 
+// The upper size that stands for none.
+const NO_UPPER: u16 = 65535;
+
 // Puts optical sizes, from the stored lower and upper ones.
-pub fn put_range(out: &mut [u8], at: usize, sizes: OpticalSizes, lower: u16, upper: u16) -> usize
-    requires { ⌜ at + 135 ≤ length (now out) ⌝ }
-    ensures { λ r. ⌜ Put (now (out .entry)) at (now (out .exit)) r 135 (sizesText lower upper (saidSizes sizes)) ⌝ }
+pub fn put_sizes(out: &mut [u8], at: usize, lower: u16, upper: u16) -> usize
+    requires { ⌜ at + sizesRoom ≤ length (now out) ⌝ }
+    ensures { λ r. ⌜ Put (now (out .entry)) at (now (out .exit)) r sizesRoom (sizesText lower upper (sizesOf lower upper)) ⌝ }
 {
-    match sizes {
-        OpticalSizes::Every => put(out, at, b"every size"),
-        OpticalSizes::Upwards(_) => {
-            let end = put_points(out, at, b"from ", lower);
-            put(out, end, b" upwards")
+    if upper == NO_UPPER {
+        if lower == 0 {
+            return put(out, at, b"every size");
         }
-        OpticalSizes::Between(_, _) => {
-            let end = put_points(out, at, b"between ", lower);
-            put_points(out, end, b" and ", upper)
-        }
+        let end = put_points(out, at, b"from ", lower);
+        return put(out, end, b" upwards");
     }
+    let end = put_points(out, at, b"between ", lower);
+    put_points(out, end, b" and ", upper)
 }
 
 // Puts a text and a stored size in points.
 fn put_points(out: &mut [u8], at: usize, text: &[u8], size: u16) -> usize
-    requires { ⌜ at + length (now text) + 61 ≤ length (now out) ⌝ }
-    ensures { λ r. ⌜ Put (now (out .entry)) at (now (out .exit)) r (length (now (text .entry)) + 61) (now (text .entry) ++ pointsText size) ⌝ }
+    requires { ⌜ at + length (now text) + figureRoom ≤ length (now out) ⌝ }
+    ensures { λ r. ⌜ Put (now (out .entry)) at (now (out .exit)) r (length (now (text .entry)) + figureRoom) (now (text .entry) ++ pointsText size) ⌝ }
 {
     let start = put(out, at, text);
     put_figure(out, start, size as u64 * 5)
@@ -99,8 +100,8 @@ fn put_points(out: &mut [u8], at: usize, text: &[u8], size: u16) -> usize
 
 // Puts a number of hundredths as the shortest decimal.
 fn put_figure(out: &mut [u8], at: usize, hundredths: u64) -> usize
-    requires { ⌜ at + 61 ≤ length (now out) ⌝ }
-    ensures { λ r. ⌜ Put (now (out .entry)) at (now (out .exit)) r 61 (figure hundredths) ⌝ }
+    requires { ⌜ at + figureRoom ≤ length (now out) ⌝ }
+    ensures { λ r. ⌜ Put (now (out .entry)) at (now (out .exit)) r figureRoom (figure hundredths) ⌝ }
 {
     let end = put_numbered(out, at, b"", hundredths / 100);
     put_fraction(out, end, hundredths % 100)
@@ -108,8 +109,8 @@ fn put_figure(out: &mut [u8], at: usize, hundredths: u64) -> usize
 
 // Puts hundredths behind a whole number.
 fn put_fraction(out: &mut [u8], at: usize, hundredths: u64) -> usize
-    requires { ⌜ at + 41 ≤ length (now out) ⌝ }
-    ensures { λ r. ⌜ Put (now (out .entry)) at (now (out .exit)) r 41 (fraction hundredths) ⌝ }
+    requires { ⌜ at + fractionRoom ≤ length (now out) ⌝ }
+    ensures { λ r. ⌜ Put (now (out .entry)) at (now (out .exit)) r fractionRoom (fraction hundredths) ⌝ }
 {
     if hundredths == 0 {
         return at;

@@ -1,9 +1,9 @@
 -- Listings worked out by hand: what is listed of tables made from document 01's first one.
 use Prim.Native.Nat.{ℕ}
 use mathlib.Core.Path.{_≡_}
-use mathlib.Core.List.{List, [], _∷_}
+use mathlib.Core.List.{List, [], _∷_, _++_}
 use Rattle.characters.specs.Texts.{codes}
-use Rattle.os2.specs.Examples.{with, first}
+use Rattle.os2_answers.specs.Examples.{with, first}
 use Rattle.os2_lines.specs.Listings.{listingOf}
 
 -- levels with tables: the first one at level 5, the same of 77 bytes, a rule broken, a level above 5
@@ -18,7 +18,10 @@ listings =
 abbrev pub Listed : Type 0
 Listed =
     listings
-    ≡ codes "0 0\n1 0\n2 400\n3 5\n4 0\n5 0\n6 0\n7 0\n8 0\n9 0\n10 0\n11 0\n12 0\n13 0\n14 0\n15 0\n16 0\n17 0\n18 0\n19 0\n20 0\n21 0\n22 0\n23 0\n24 0\n25 0\n26 0\n27 0\n28 0\n29 0\n30 0\n31 0\n32 0\n33 0\n34 0\n35 0\n36 0\n37 0\n38 0\n39 absent\n40 absent\n41 absent\n42 absent\n43 absent\n44 absent\n45 absent\n46 absent\n47 absent\nrights installable\nstyle position 400 100\noptical sizes absent\n"
+    ≡ (codes "0 0\n1 0\n2 400\n3 5\n4 0\n5 0\n6 0\n7 0\n8 0\n9 0\n10 0\n11 0\n12 0\n13 0\n14 0\n15 0\n16 0\n17 0\n18 0\n19 0\n20 0\n21 0\n22 0\n"
+    ++ codes "23 0\n24 0\n25 0\n26 0\n27 0\n28 0\n29 0\n30 0\n31 0\n32 0\n33 0\n34 0\n35 0\n36 0\n37 0\n38 0\n"
+    ++ codes "39 absent\n40 absent\n41 absent\n42 absent\n43 absent\n44 absent\n45 absent\n46 absent\n47 absent\n"
+    ++ codes "rights installable\nstyle position 400 100\noptical sizes absent\n")
     ∷ codes "refused 2\n"
     ∷ codes "refused 3 at 5\n"
     ∷ codes "refused 1\n"

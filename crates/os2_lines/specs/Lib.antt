@@ -1,2 +1,3 @@
 pub mod Listings
+pub mod Reading
 pub mod Examples

@@ -2,20 +2,19 @@
 -- reads stands in docs/DECISIONS.md.
 use Prim.Native.Nat.{ℕ, zero, suc}
 use mathlib.Core.Bool.{cond}
-use mathlib.Core.Option.{Option, none, some}
 use mathlib.Core.List.{List, [], _++_}
 use lib.Dec.{ltb, eqb}
-use lib.ListN.{length}
+use Rattle.outcomes.specs.Outcomes.{Outcome, refused, answered}
 use Rattle.characters.specs.Texts.{codes}
-use Rattle.listing_lines.specs.Numerals.{decimal}
-use Rattle.listing_lines.specs.Lines as lines
+use Rattle.lines.specs.Numerals.{decimal}
+use Rattle.lines.specs.Lines.{refusedLine, listed}
 use Rattle.os2_fields.specs.Fields.{raw}
-use Rattle.os2.specs.declared.Question.{Question}
-use Rattle.os2.specs.declared.Question.the-variants.{Field, Rights, StylePosition, OpticalSizes}
-use Rattle.os2.specs.Outcomes.{Value, integer, rights, position, sizes, Said, value, absent, not-known, Outcome, refused, answered}
-use Rattle.os2.specs.Acceptance.{checked}
-use Rattle.os2.specs.Asking.{given}
-use Rattle.os2_figures.specs.Figures.{signedText, rightsText, positionText, sizesText}
+use Rattle.os2_acceptance.specs.Acceptance.{checked}
+use Rattle.os2_answers.specs.declared.Question.{Question}
+use Rattle.os2_answers.specs.declared.Question.the-variants.{Field, Rights, StylePosition, OpticalSizes}
+use Rattle.os2_answers.specs.Values.{Value, integer, rights, position, sizes, Said, value, absent, not-known}
+use Rattle.os2_answers.specs.Asking.{given}
+use Rattle.os2_figures.specs.Figures.{signedText, rightsText, positionText, sizesRoom, sizesText}
 
 -- a value of a table. Fields 2 and 3 are weight and width, 46 and 47 the lower and upper optical size
 abbrev pub valueText : List ℕ → Value → List ℕ
@@ -29,6 +28,10 @@ abbrev pub answerText : List ℕ → Said → List ℕ
 answerText b (value v) = valueText b v
 answerText b absent = codes "absent"
 answerText b not-known = codes "not known"
+
+-- the most bytes of an answer: those of optical sizes
+abbrev pub answerRoom : ℕ
+answerRoom = sizesRoom
 
 -- line k asks for field k; lines 48, 49 and 50 ask for rights, style position and optical sizes
 unfoldable pub questionOf : ℕ → Question
@@ -47,16 +50,11 @@ unfoldable pub linesBelow : ℕ → List ℕ → ℕ → List ℕ
 linesBelow L b zero = []
 linesBelow L b (suc n) = linesBelow L b n ++ lineAt L b n
 
--- a refusal, with what it carries
-abbrev pub refusalText : ℕ → Option ℕ → List ℕ
-refusalText n none = lines.refused n
-refusalText n (some k) = lines.refusedAt n k
-
 -- the listing of a table of which a level says so
 abbrev pub afterCheck : ℕ → List ℕ → Outcome (Unit {0}) → List ℕ
-afterCheck L b (refused n c) = refusalText n c
+afterCheck L b (refused n c) = refusedLine n c
 afterCheck L b (answered u) = linesBelow L b 51
 
--- at most 65,536 bytes, as the listing of a 'name' table
+-- the whole listing of an input
 unfoldable pub listingOf : ℕ → List ℕ → List ℕ
-listingOf L b = cond (ltb 65536 (length b)) lines.tooLong (afterCheck L b (checked L b))
+listingOf L b = listed b (afterCheck L b (checked L b))

@@ -2,16 +2,22 @@
 // a file reads standard input. docs/DECISIONS.md has the lines. It only reads, loops and writes: the lines are the libraries'.
 ghost use Prim.Native.Nat.{_≤_};
 ghost use mathlib.Core.Path.{_≡_};
+ghost use mathlib.Core.Option.{none};
 ghost use lib.ListN.{length};
-ghost use Rattle.os2.specs.Outcomes.{accepted};
-ghost use Rattle.os2.specs.Acceptance.{judged};
-use level_word::LevelWord;
+ghost use Rattle.lines.specs.Pieces.{lineRoom};
+ghost use Rattle.level.specs.Levels.{numberOf};
+ghost use Rattle.os2_acceptance.specs.Acceptance.{judged};
+use level::Level;
+use level::LevelAnswer;
+use level::LevelWord;
 use libc::STDERR_FILENO;
+use lines::append;
 use listing_io::Input;
 use listing_io::room_behind;
 use listing_io::write;
-use listing_lines::append;
-use os2::Checked;
+use os2_acceptance::Checked;
+use os2_acceptance::Refusal;
+use os2_lines::LINE_COUNT;
 
 fn main() {
     let count = os::arg_count();
@@ -38,7 +44,7 @@ fn list_arguments(level: usize, file: usize) {
         os::fail(b"level");
         return;
     }
-    match level_word::level_in(&word[..n]) {
+    match level::level_in(&word[..n]) {
         LevelWord::Number(number) => list_input(number, file),
         LevelWord::NoNumber => {
             io::write_all(STDERR_FILENO, &word[..n]);
@@ -52,38 +58,50 @@ fn list_input(level: u32, file: usize) {
     let mut table = io::large_buffer();
     match listing_io::read_table(file, &mut table) {
         Input::Table(n) => list_table(&table[..n], level),
-        Input::TooLong => listing_io::write_line(listing_lines::too_long()),
+        Input::TooLong => listing_io::write_line(lines::too_long()),
         Input::Unread => {}
     }
 }
 
 // A table's one line of refusal, or its lines.
 fn list_table(table: &[u8], level: u32) {
-    match os2::check(table, level) {
-        Checked::Refused(refusal) => listing_io::write_line(os2_lines::refusal_line(refusal)),
-        Checked::Accepted => list_accepted(table, level),
+    match Level::new(level) {
+        LevelAnswer::Known(known) => list_known(table, known),
+        LevelAnswer::Refused => list_refusal(Refusal::LevelAbove),
     }
 }
 
-// The 51 lines of a table that the level accepts: the 48 fields, rights, style position and optical sizes.
-fn list_accepted(table: &[u8], level: u32)
-    requires { ⌜ judged level (now table) ≡ accepted ⌝ }
+// The same at one of the six levels.
+fn list_known(table: &[u8], known: Level) {
+    match os2_acceptance::judge(table, known) {
+        Checked::Accepted => list_accepted(table, known),
+        Checked::Refused(refusal) => list_refusal(refusal),
+    }
+}
+
+fn list_refusal(refusal: Refusal) {
+    listing_io::write_line(lines::refusal_line(refusal.told()));
+}
+
+// The lines of a table that the level accepts.
+fn list_accepted(table: &[u8], known: Level)
+    requires { ⌜ judged (numberOf known) (now table) ≡ none ⌝ }
 {
     let mut out = io::buffer();
-    let end = lines(table, level, &mut out);
+    let end = table_lines(table, known, &mut out);
     write(&out[..end]);
 }
 
 // Collects the lines, writes them out whenever the room is used up, and answers how many bytes are left to write.
-fn lines(table: &[u8], level: u32, out: &mut [u8]) -> usize
-    requires { ⌜ (judged level (now table) ≡ accepted) × (160 ≤ length (now out)) ⌝ }
+fn table_lines(table: &[u8], known: Level, out: &mut [u8]) -> usize
+    requires { ⌜ (judged (numberOf known) (now table) ≡ none) × (lineRoom ≤ length (now out)) ⌝ }
     ensures { λ r. ⌜ r ≤ length (now (out .exit)) ⌝ }
 {
     let mut end = 0;
     let mut k = 0;
-    while k < 51 {
+    while k < LINE_COUNT {
         let room = room_behind(out, end);
-        end = append(out, room, os2_lines::line(table, level, k));
+        end = append(out, room, os2_lines::line(table, known, k));
         k += 1;
     }
     end

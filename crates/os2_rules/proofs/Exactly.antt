@@ -2,21 +2,25 @@
 -- every proposition holds, and else the first rule broken.
 -- Assumes nothing.
 use Prim.Native.Nat.{ℕ, zero, suc, _+_, _*_, _/_, _^_, _<_, _≤_}
-use mathlib.Core.Path.{_≡_, refl, sym, _∙_}
-use mathlib.Core.Logic.{_⊎_, inl, inr, ⊎-elim, _↔_}
-use mathlib.Core.Bool.{Bool, true, false, cond, _&&_, _||_, false≢true}
+use mathlib.Core.Path.{_≡_, refl, sym, _∙_, ap}
+use mathlib.Core.Logic.{_↔_, Iff·trans, Iff·and}
+use mathlib.Core.Bool.{true, false, _&&_, _||_, false≢true}
+use mathlib.Core.Option.{Option, none, some}
 use native.Mathlib.Nat.{mod-lt}
 use native.Mathlib.Decide.{decLt}
 use native.Mathlib.Omega.{arith}
-use lib.Dec.{ltb}
+use lib.Dec.{ltb, leb, eqb}
+use lib.ListN.{List·getD-eq-default}
 use lib.Pow.{pow-pos, mod-pow-add, shr-shr}
-use borrow.Author.Tests.{lt-ltb, le-ltb, lt-leb, eq-eqb, ltb-true, ltb-false, leb-false, eqb-true}
+use borrow.Author.Tests.{le-ltb, ltb-true, ltb-false}
+use Rattle.outcomes.specs.Firsts.{when, _then_, firstOf}
+use Rattle.outcomes.specs.Outcomes.{Refusal, carrying}
+use Rattle.outcomes.proofs.Laws.{none-exactly, lowest-exactly}
+use Rattle.outcomes.proofs.Tests.{below, not-below, not-at-most, equal, or-false, and-false, holds, implies}
 use Rattle.os2_rules.specs.Bits.{bit, bits}
-use Rattle.os2_rules.specs.Rules.{Clear, WeightRule, WidthRule, TypeRule, RightsRule, SelectionRule, RegularRule, SizesRule, Before2, Before3, Before4, Before5, Before6, Before7, Rules, FirstBroken, broken-1, broken-2, broken-3, broken-4, broken-5, broken-6, broken-7}
-use Rattle.os2_rules.specs.Tests.{anySet, weightBroken, widthBroken, typeBroken, rightsBroken, selectionBroken, regularBroken, sizesBroken, verdictOf, isKept}
+use Rattle.os2_rules.specs.Rules.{Clear, WeightRule, WidthRule, TypeRule, RightsRule, SelectionRule, RegularRule, SizesRule, Rule, Rules, FirstBroken}
+use Rattle.os2_rules.specs.Tests.{anySet, weightBroken, widthBroken, typeBroken, rightsBroken, selectionBroken, regularBroken, sizesBroken, tests, broken, verdictOf, kept}
 use Rattle.os2_rules.specs.declared.Values.{Values}
-use Rattle.os2_rules.specs.declared.Verdict.{Verdict}
-use Rattle.os2_rules.specs.declared.Verdict.the-variants.{Kept, Broken}
 
 -- ---- bits
 
@@ -68,31 +72,11 @@ clear k n e x d = (
   λ h. le-ltb 0 (bits k n x) (omega (arith, clear-bits k n x (λ j a b. h j a (omega arith)))),
 )
 
--- ---- tests put together
-
-or-false : (s t : Bool) → (s || t) ≡ false → (s ≡ false) × (t ≡ false)
-or-false true t e = absurd (false≢true (sym e))
-or-false false t e = (refl, e)
-
-false-or : (s t : Bool) → s ≡ false → t ≡ false → (s || t) ≡ false
-false-or s t e d = rw (e, d)
-
-and-false : (s t : Bool) → (s && t) ≡ false → s ≡ true → t ≡ false
-and-false true t e d = e
-and-false false t e d = absurd (false≢true d)
-
-false-and : (s t : Bool) → (s ≡ true → t ≡ false) → (s && t) ≡ false
-false-and true t h = h refl
-false-and false t h = refl
-
 -- ---- each rule
 
 -- a number is in a range exactly when it is neither below nor above
 range-exactly : (x least most : ℕ) → ((ltb x least || ltb most x) ≡ false) ↔ ((least ≤ x) × (x ≤ most))
-range-exactly x least most = (
-  λ e. let o = or-false (ltb x least) (ltb most x) e in (ltb-false x least (o .0), ltb-false most x (o .1)),
-  λ h. false-or (ltb x least) (ltb most x) (le-ltb x least (h .0)) (le-ltb most x (h .1)),
-)
+range-exactly x least most = Iff·trans (or-false (ltb x least) (ltb most x)) (Iff·and (not-below x least) (not-below most x))
 
 pub weight-exactly : (x : ℕ) → (weightBroken x ≡ false) ↔ WeightRule x
 unfolding weightBroken
@@ -104,219 +88,135 @@ width-exactly x = range-exactly x _ _
 
 pub type-exactly : (x : ℕ) → (typeBroken x ≡ false) ↔ TypeRule x
 unfolding typeBroken
-type-exactly x = (there, back)
-  where
-    there : (anySet 0 1 x || (anySet 4 4 x || anySet 10 6 x)) ≡ false → TypeRule x
-    there e =
-        let o = or-false (anySet 0 1 x) (anySet 4 4 x || anySet 10 6 x) e in
-        let p = or-false (anySet 4 4 x) (anySet 10 6 x) (o .1) in
-        (clear 0 1 0 x refl .0 (o .0), (clear 4 4 7 x refl .0 (p .0), clear 10 6 15 x refl .0 (p .1)))
-
-    back : TypeRule x → (anySet 0 1 x || (anySet 4 4 x || anySet 10 6 x)) ≡ false
-    back h =
-        false-or (anySet 0 1 x) (anySet 4 4 x || anySet 10 6 x) (clear 0 1 0 x refl .1 (h .0))
-        (false-or (anySet 4 4 x) (anySet 10 6 x) (clear 4 4 7 x refl .1 (h .1 .0)) (clear 10 6 15 x refl .1 (h .1 .1)))
+type-exactly x =
+    Iff·trans (or-false (anySet 0 1 x) (anySet 4 4 x || anySet 10 6 x))
+    (Iff·and (clear 0 1 0 x refl)
+    (Iff·trans (or-false (anySet 4 4 x) (anySet 10 6 x)) (Iff·and (clear 4 4 7 x refl) (clear 10 6 15 x refl))))
 
 pub rights-exactly : (w x : ℕ) → (rightsBroken w x ≡ false) ↔ RightsRule w x
 unfolding rightsBroken
-rights-exactly w x = (ltb-false 1 (bit 1 x + bit 2 x + bit 3 x), le-ltb 1 (bit 1 x + bit 2 x + bit 3 x))
+rights-exactly w x = not-below 1 (bit 1 x + bit 2 x + bit 3 x)
 
 pub selection-exactly : (w x : ℕ) → (selectionBroken w x ≡ false) ↔ SelectionRule w x
 unfolding selectionBroken
-selection-exactly w x = (there, back)
-  where
-    there : (anySet 10 6 x || (ltb w 4 && anySet 7 3 x)) ≡ false → SelectionRule w x
-    there e =
-        let o = or-false (anySet 10 6 x) (ltb w 4 && anySet 7 3 x) e in
-        (clear 10 6 15 x refl .0 (o .0), λ h. clear 7 3 9 x refl .0 (and-false (ltb w 4) (anySet 7 3 x) (o .1) (lt-ltb w 4 h)))
-
-    back : SelectionRule w x → (anySet 10 6 x || (ltb w 4 && anySet 7 3 x)) ≡ false
-    back h =
-        false-or (anySet 10 6 x) (ltb w 4 && anySet 7 3 x) (clear 10 6 15 x refl .1 (h .0))
-        (false-and (ltb w 4) (anySet 7 3 x) (λ e. clear 7 3 9 x refl .1 (h .1 (ltb-true w 4 e))))
+selection-exactly w x =
+    Iff·trans (or-false (anySet 10 6 x) (ltb w 4 && anySet 7 3 x))
+    (Iff·and (clear 10 6 15 x refl)
+    (Iff·trans (and-false (ltb w 4) (anySet 7 3 x)) (implies (below w 4) (clear 7 3 9 x refl))))
 
 -- a bit is set, or clear
-set-is : (k x : ℕ) → bit k x ≡ 1 → anySet k 1 x ≡ true
-set-is k x e = rw (bit-one k x, e)
+set-is : (k x : ℕ) → (anySet k 1 x ≡ true) ↔ (bit k x ≡ 1)
+set-is k x =
+    let b : bits k 1 x ≡ bit k x = bit-one k x in
+    (λ e. omega (arith, ltb-true 0 (bits k 1 x) e, bit-small k x), λ e. rw (b, e))
 
-is-set : (k x : ℕ) → anySet k 1 x ≡ true → bit k x ≡ 1
-is-set k x e = let b : bits k 1 x ≡ bit k x = bit-one k x in omega (arith, ltb-true 0 (bits k 1 x) e, bit-small k x)
-
-clear-is : (k x : ℕ) → bit k x ≡ 0 → anySet k 1 x ≡ false
-clear-is k x e = rw (bit-one k x, e)
-
-is-clear : (k x : ℕ) → anySet k 1 x ≡ false → bit k x ≡ 0
-is-clear k x e = let b : bits k 1 x ≡ bit k x = bit-one k x in omega (arith, ltb-false 0 (bits k 1 x) e)
+clear-is : (k x : ℕ) → (anySet k 1 x ≡ false) ↔ (bit k x ≡ 0)
+clear-is k x =
+    let b : bits k 1 x ≡ bit k x = bit-one k x in
+    (λ e. omega (arith, ltb-false 0 (bits k 1 x) e), λ e. rw (b, e))
 
 pub regular-exactly : (x : ℕ) → (regularBroken x ≡ false) ↔ RegularRule x
 unfolding regularBroken
-regular-exactly x = (there, back)
-  where
-    there : (anySet 6 1 x && (anySet 0 1 x || anySet 5 1 x)) ≡ false → RegularRule x
-    there e h =
-        let o = or-false (anySet 0 1 x) (anySet 5 1 x) (and-false (anySet 6 1 x) (anySet 0 1 x || anySet 5 1 x) e (set-is 6 x h)) in
-        (is-clear 0 x (o .0), is-clear 5 x (o .1))
-
-    back : RegularRule x → (anySet 6 1 x && (anySet 0 1 x || anySet 5 1 x)) ≡ false
-    back h =
-        false-and (anySet 6 1 x) (anySet 0 1 x || anySet 5 1 x)
-        (λ e. false-or (anySet 0 1 x) (anySet 5 1 x) (clear-is 0 x (h (is-set 6 x e) .0)) (clear-is 5 x (h (is-set 6 x e) .1)))
+regular-exactly x =
+    Iff·trans (and-false (anySet 6 1 x) (anySet 0 1 x || anySet 5 1 x))
+    (implies (set-is 6 x) (Iff·trans (or-false (anySet 0 1 x) (anySet 5 1 x)) (Iff·and (clear-is 0 x) (clear-is 5 x))))
 
 pub sizes-exactly : (w lo up : ℕ) → (sizesBroken w lo up ≡ false) ↔ SizesRule w lo up
 unfolding sizesBroken
-sizes-exactly w lo up = (
-  λ e h. leb-false _ _ (and-false _ _ e (eq-eqb _ _ h)),
-  λ h. false-and _ _ (λ e. lt-leb _ _ (h (eqb-true _ _ e))),
-)
+sizes-exactly w lo up = Iff·trans (and-false (eqb w 5) (leb up lo)) (implies (equal w 5) (not-at-most up lo))
 
--- ---- the verdict
+-- ---- the rule of a number, and the verdict
 
-kept-step : (t : Bool) (k : ℕ) (rest : Verdict) → cond t (Broken k) rest ≡ Kept → (t ≡ false) × (rest ≡ Kept)
-kept-step true k rest e = let z : _≡_ {A = ℕ} 0 1 = cc in absurd (omega arith)
-kept-step false k rest e = (refl, e)
-
-pub kept-true : (d : Verdict) → isKept d ≡ true → d ≡ Kept
-kept-true Kept e = refl
-kept-true (Broken k) e = absurd (false≢true e)
-
--- no rule is broken exactly when every rule holds
-pub kept-exactly : (v : Values) → (verdictOf v ≡ Kept) ↔ Rules v
-unfolding verdictOf
-kept-exactly v = (there, back)
+-- a test by its number finds its rule broken exactly when the rule does not hold
+pub rule-exactly : (v : Values) (k : ℕ) → (broken v k ≡ false) ↔ Rule v k
+unfolding broken
+rule-exactly v k = (there, back k)
   where
-    there : verdictOf v ≡ Kept → Rules v
-    there e1 =
-        let e2 = kept-step (weightBroken (v .weight)) 1 _ e1 in
-        let e3 = kept-step (widthBroken (v .width)) 2 _ (e2 .1) in
-        let e4 = kept-step (typeBroken (v .fstype)) 3 _ (e3 .1) in
-        let e5 = kept-step (rightsBroken (v .version) (v .fstype)) 4 _ (e4 .1) in
-        let e6 = kept-step (selectionBroken (v .version) (v .fsselection)) 5 _ (e5 .1) in
-        let e7 = kept-step (regularBroken (v .fsselection)) 6 _ (e6 .1) in
-        let e8 = kept-step (sizesBroken (v .version) (v .lower) (v .upper)) 7 _ (e7 .1) in
+    there : broken v k ≡ false → Rule v k
+    there d =
         record {
-          rule-1 = weight-exactly (v .weight) .0 (e2 .0);
-          rule-2 = width-exactly (v .width) .0 (e3 .0);
-          rule-3 = type-exactly (v .fstype) .0 (e4 .0);
-          rule-4 = rights-exactly (v .version) (v .fstype) .0 (e5 .0);
-          rule-5 = selection-exactly (v .version) (v .fsselection) .0 (e6 .0);
-          rule-6 = regular-exactly (v .fsselection) .0 (e7 .0);
-          rule-7 = sizes-exactly (v .version) (v .lower) (v .upper) .0 (e8 .0);
+          rule-1 = λ e. weight-exactly (v .weight) .0 (rw e at d);
+          rule-2 = λ e. width-exactly (v .width) .0 (rw e at d);
+          rule-3 = λ e. type-exactly (v .fstype) .0 (rw e at d);
+          rule-4 = λ e. rights-exactly (v .version) (v .fstype) .0 (rw e at d);
+          rule-5 = λ e. selection-exactly (v .version) (v .fsselection) .0 (rw e at d);
+          rule-6 = λ e. regular-exactly (v .fsselection) .0 (rw e at d);
+          rule-7 = λ e. sizes-exactly (v .version) (v .lower) (v .upper) .0 (rw e at d);
         }
 
-    back : Rules v → verdictOf v ≡ Kept
-    back r =
-        simp (
-          weight-exactly (v .weight) .1 (r .rule-1),
-          width-exactly (v .width) .1 (r .rule-2),
-          type-exactly (v .fstype) .1 (r .rule-3),
-          rights-exactly (v .version) (v .fstype) .1 (r .rule-4),
-          selection-exactly (v .version) (v .fsselection) .1 (r .rule-5),
-          regular-exactly (v .fsselection) .1 (r .rule-6),
-          sizes-exactly (v .version) (v .lower) (v .upper) .1 (r .rule-7),
-        )
+    back : (j : ℕ) → Rule v j → broken v j ≡ false
+    back zero r = refl
+    back (suc zero) r = weight-exactly (v .weight) .1 (r .rule-1 refl)
+    back (suc (suc zero)) r = width-exactly (v .width) .1 (r .rule-2 refl)
+    back (suc (suc (suc zero))) r = type-exactly (v .fstype) .1 (r .rule-3 refl)
+    back (suc (suc (suc (suc zero)))) r = rights-exactly (v .version) (v .fstype) .1 (r .rule-4 refl)
+    back (suc (suc (suc (suc (suc zero))))) r = selection-exactly (v .version) (v .fsselection) .1 (r .rule-5 refl)
+    back (suc (suc (suc (suc (suc (suc zero)))))) r = regular-exactly (v .fsselection) .1 (r .rule-6 refl)
+    back (suc (suc (suc (suc (suc (suc (suc zero))))))) r = sizes-exactly (v .version) (v .lower) (v .upper) .1 (r .rule-7 refl)
+    back (suc (suc (suc (suc (suc (suc (suc (suc j)))))))) r = refl
 
-broken-step : (t : Bool) (k n : ℕ) (rest : Verdict) → cond t (Broken n) rest ≡ Broken k → ((t ≡ true) × (k ≡ n)) ⊎ ((t ≡ false) × (rest ≡ Broken k))
-broken-step true k n rest e = inl (refl, cc)
-broken-step false k n rest e = inr (refl, e)
+-- a rule after the seventh is none that can be broken
+no-eighth : (v : Values) (k : ℕ) → 8 ≤ k → broken v k ≡ false
+unfolding broken
+no-eighth v k h = List·getD-eq-default (tests v) false h
 
--- a rule that its test finds broken does not hold
-fails : {P : Type 0} (t : Bool) → (t ≡ false) ↔ P → t ≡ true → P → ⊥
-fails t x e h = false≢true (sym (x .1 h) ∙ e)
+pub kept-true : (o : Option Refusal) → kept o ≡ true → o ≡ none
+kept-true none e = refl
+kept-true (some r) e = absurd (false≢true e)
 
--- the test of a rule that does not hold finds it broken
-found : {P : Type 0} (t : Bool) → (t ≡ false) ↔ P → (P → ⊥) → t ≡ true
-found true x h = refl
-found false x h = absurd (h (x .0 refl))
+-- no rule is broken exactly when every rule holds
+pub kept-exactly : (v : Values) → (verdictOf v ≡ none) ↔ Rules v
+unfolding verdictOf
+kept-exactly v = (
+  λ e k. rule-exactly v k .0 (at e k (decLt k 8)),
+  λ r. none-exactly (broken v) (carrying 3) 8 .1 (λ k l. rule-exactly v k .1 (r k)),
+)
+  where
+    at : verdictOf v ≡ none → (k : ℕ) → Dec (k < 8) → broken v k ≡ false
+    at e k (yes l) = none-exactly (broken v) (carrying 3) 8 .0 e k l
+    at e k (no l) = no-eighth v k (omega arith)
+
+-- a refusal of the rules is 3 with the first rule broken
+pub broken-first : (v : Values) (r : Refusal) → verdictOf v ≡ some r → (k : ℕ) × (carrying 3 k ≡ r) × FirstBroken v k
+unfolding verdictOf
+broken-first v r e =
+    let l = lowest-exactly (broken v) (carrying 3) 8 r .0 e in (
+      l .place,
+      l .is,
+      record {
+        broken = holds (broken v (l .place)) (rule-exactly v (l .place)) .0 (l .holds);
+        earlier = λ j m. rule-exactly v j .0 (l .earlier j m);
+      },
+    )
 
 -- the verdict names a rule exactly when that is the first rule broken
-pub broken-exactly : (v : Values) (k : ℕ) → (verdictOf v ≡ Broken k) ↔ FirstBroken v k
+pub broken-exactly : (v : Values) (k : ℕ) → (verdictOf v ≡ some (carrying 3 k)) ↔ FirstBroken v k
 unfolding verdictOf
-broken-exactly v k = (there, back k)
+broken-exactly v k = (there, λ f. back f (decLt k 8))
   where
-    none-left : Kept ≡ Broken k → FirstBroken v k
-    none-left e = let z : _≡_ {A = ℕ} 0 1 = cc in absurd (omega arith)
-
-    from-7 : Before7 v → cond (sizesBroken (v .version) (v .lower) (v .upper)) (Broken 7) Kept ≡ Broken k → FirstBroken v k
-    from-7 h e =
-        ⊎-elim (λ d. rw (d .1) (broken-7 h (fails (sizesBroken (v .version) (v .lower) (v .upper)) (sizes-exactly (v .version) (v .lower) (v .upper)) (d .0)))) (λ d. none-left (d .1))
-        (broken-step (sizesBroken (v .version) (v .lower) (v .upper)) k 7 _ e)
-
-    from-6 : Before6 v → cond (regularBroken (v .fsselection)) (Broken 6) (cond (sizesBroken (v .version) (v .lower) (v .upper)) (Broken 7) Kept) ≡ Broken k → FirstBroken v k
-    from-6 h e =
-        ⊎-elim (λ d. rw (d .1) (broken-6 h (fails (regularBroken (v .fsselection)) (regular-exactly (v .fsselection)) (d .0)))) (λ d. from-7 (h, regular-exactly (v .fsselection) .0 (d .0)) (d .1))
-        (broken-step (regularBroken (v .fsselection)) k 6 _ e)
-
-    from-5 : Before5 v → cond (selectionBroken (v .version) (v .fsselection)) (Broken 5) (cond (regularBroken (v .fsselection)) (Broken 6) (cond (sizesBroken (v .version) (v .lower) (v .upper)) (Broken 7) Kept)) ≡ Broken k → FirstBroken v k
-    from-5 h e =
-        ⊎-elim (λ d. rw (d .1) (broken-5 h (fails (selectionBroken (v .version) (v .fsselection)) (selection-exactly (v .version) (v .fsselection)) (d .0)))) (λ d. from-6 (h, selection-exactly (v .version) (v .fsselection) .0 (d .0)) (d .1))
-        (broken-step (selectionBroken (v .version) (v .fsselection)) k 5 _ e)
-
-    from-4 : Before4 v → cond (rightsBroken (v .version) (v .fstype)) (Broken 4) (cond (selectionBroken (v .version) (v .fsselection)) (Broken 5) (cond (regularBroken (v .fsselection)) (Broken 6) (cond (sizesBroken (v .version) (v .lower) (v .upper)) (Broken 7) Kept))) ≡ Broken k → FirstBroken v k
-    from-4 h e =
-        ⊎-elim (λ d. rw (d .1) (broken-4 h (fails (rightsBroken (v .version) (v .fstype)) (rights-exactly (v .version) (v .fstype)) (d .0)))) (λ d. from-5 (h, rights-exactly (v .version) (v .fstype) .0 (d .0)) (d .1))
-        (broken-step (rightsBroken (v .version) (v .fstype)) k 4 _ e)
-
-    from-3 : Before3 v → cond (typeBroken (v .fstype)) (Broken 3) (cond (rightsBroken (v .version) (v .fstype)) (Broken 4) (cond (selectionBroken (v .version) (v .fsselection)) (Broken 5) (cond (regularBroken (v .fsselection)) (Broken 6) (cond (sizesBroken (v .version) (v .lower) (v .upper)) (Broken 7) Kept)))) ≡ Broken k → FirstBroken v k
-    from-3 h e =
-        ⊎-elim (λ d. rw (d .1) (broken-3 h (fails (typeBroken (v .fstype)) (type-exactly (v .fstype)) (d .0)))) (λ d. from-4 (h, type-exactly (v .fstype) .0 (d .0)) (d .1))
-        (broken-step (typeBroken (v .fstype)) k 3 _ e)
-
-    from-2 : Before2 v → cond (widthBroken (v .width)) (Broken 2) (cond (typeBroken (v .fstype)) (Broken 3) (cond (rightsBroken (v .version) (v .fstype)) (Broken 4) (cond (selectionBroken (v .version) (v .fsselection)) (Broken 5) (cond (regularBroken (v .fsselection)) (Broken 6) (cond (sizesBroken (v .version) (v .lower) (v .upper)) (Broken 7) Kept))))) ≡ Broken k → FirstBroken v k
-    from-2 h e =
-        ⊎-elim (λ d. rw (d .1) (broken-2 h (fails (widthBroken (v .width)) (width-exactly (v .width)) (d .0)))) (λ d. from-3 (h, width-exactly (v .width) .0 (d .0)) (d .1))
-        (broken-step (widthBroken (v .width)) k 2 _ e)
-
-    there : verdictOf v ≡ Broken k → FirstBroken v k
+    there : verdictOf v ≡ some (carrying 3 k) → FirstBroken v k
     there e =
-        ⊎-elim (λ d. rw (d .1) (broken-1 (fails (weightBroken (v .weight)) (weight-exactly (v .weight)) (d .0)))) (λ d. from-2 (weight-exactly (v .weight) .0 (d .0)) (d .1))
-        (broken-step (weightBroken (v .weight)) k 1 _ e)
+        let b = broken-first v (carrying 3 k) e in
+        let d : some (b .0) ≡ some k = ap (λ (r : Refusal). r .carried) (b .1) in
+        let i : b .0 ≡ k = cc in
+        rw i at (b .2)
 
-    back : (j : ℕ) → FirstBroken v j → verdictOf v ≡ Broken j
-    back j (broken-1 n) =
-        simp
-        (found (weightBroken (v .weight)) (weight-exactly (v .weight)) n)
-    back j (broken-2 h n) =
-        simp (
-          weight-exactly (v .weight) .1 (h),
-          found (widthBroken (v .width)) (width-exactly (v .width)) n,
+    back : FirstBroken v k → Dec (k < 8) → verdictOf v ≡ some (carrying 3 k)
+    back f (yes l) =
+        lowest-exactly (broken v) (carrying 3) 8 (carrying 3 k) .1 (
+        record {
+          place = k;
+          inside = l;
+          holds = holds (broken v k) (rule-exactly v k) .1 (f .broken);
+          is = refl;
+          earlier = λ j m. rule-exactly v j .1 (f .earlier j m);
+        }
         )
-    back j (broken-3 h n) =
-        simp (
-          weight-exactly (v .weight) .1 (h .0),
-          width-exactly (v .width) .1 (h .1),
-          found (typeBroken (v .fstype)) (type-exactly (v .fstype)) n,
-        )
-    back j (broken-4 h n) =
-        simp (
-          weight-exactly (v .weight) .1 (h .0 .0),
-          width-exactly (v .width) .1 (h .0 .1),
-          type-exactly (v .fstype) .1 (h .1),
-          found (rightsBroken (v .version) (v .fstype)) (rights-exactly (v .version) (v .fstype)) n,
-        )
-    back j (broken-5 h n) =
-        simp (
-          weight-exactly (v .weight) .1 (h .0 .0 .0),
-          width-exactly (v .width) .1 (h .0 .0 .1),
-          type-exactly (v .fstype) .1 (h .0 .1),
-          rights-exactly (v .version) (v .fstype) .1 (h .1),
-          found (selectionBroken (v .version) (v .fsselection)) (selection-exactly (v .version) (v .fsselection)) n,
-        )
-    back j (broken-6 h n) =
-        simp (
-          weight-exactly (v .weight) .1 (h .0 .0 .0 .0),
-          width-exactly (v .width) .1 (h .0 .0 .0 .1),
-          type-exactly (v .fstype) .1 (h .0 .0 .1),
-          rights-exactly (v .version) (v .fstype) .1 (h .0 .1),
-          selection-exactly (v .version) (v .fsselection) .1 (h .1),
-          found (regularBroken (v .fsselection)) (regular-exactly (v .fsselection)) n,
-        )
-    back j (broken-7 h n) =
-        simp (
-          weight-exactly (v .weight) .1 (h .0 .0 .0 .0 .0),
-          width-exactly (v .width) .1 (h .0 .0 .0 .0 .1),
-          type-exactly (v .fstype) .1 (h .0 .0 .0 .1),
-          rights-exactly (v .version) (v .fstype) .1 (h .0 .0 .1),
-          selection-exactly (v .version) (v .fsselection) .1 (h .0 .1),
-          regular-exactly (v .fsselection) .1 (h .1),
-          found (sizesBroken (v .version) (v .lower) (v .upper)) (sizes-exactly (v .version) (v .lower) (v .upper)) n,
-        )
+    back f (no l) = absurd (f .broken (rule-exactly v k .0 (no-eighth v k (omega arith))))
+
+-- ---- an example
+
+-- weight 400 and width 5, all others 0, as in document 01's first starred table, keep every rule
+pub plain-kept : verdictOf (record { version = 0; weight = 400; width = 5; fstype = 0; fsselection = 0; lower = 0; upper = 0 }) ≡ none
+unfolding verdictOf firstOf _then_ when broken weightBroken widthBroken typeBroken rightsBroken selectionBroken regularBroken sizesBroken bit bits
+plain-kept = refl

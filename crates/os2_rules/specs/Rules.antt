@@ -36,41 +36,21 @@ RegularRule fsselection = bit 6 fsselection ≡ 1 → (bit 0 fsselection ≡ 0) 
 abbrev pub SizesRule : ℕ → ℕ → ℕ → Type 0
 SizesRule version lower upper = version ≡ 5 → lower < upper
 
+-- value rule k holds
+pub record Rule (v : Values) (k : ℕ) : Type 0 where
+  pub rule-1 : k ≡ 1 → WeightRule (v .weight)
+  pub rule-2 : k ≡ 2 → WidthRule (v .width)
+  pub rule-3 : k ≡ 3 → TypeRule (v .fstype)
+  pub rule-4 : k ≡ 4 → RightsRule (v .version) (v .fstype)
+  pub rule-5 : k ≡ 5 → SelectionRule (v .version) (v .fsselection)
+  pub rule-6 : k ≡ 6 → RegularRule (v .fsselection)
+  pub rule-7 : k ≡ 7 → SizesRule (v .version) (v .lower) (v .upper)
+
 -- every rule holds
-pub record Rules (v : Values) : Type 0 where
-  pub rule-1 : WeightRule (v .weight)
-  pub rule-2 : WidthRule (v .width)
-  pub rule-3 : TypeRule (v .fstype)
-  pub rule-4 : RightsRule (v .version) (v .fstype)
-  pub rule-5 : SelectionRule (v .version) (v .fsselection)
-  pub rule-6 : RegularRule (v .fsselection)
-  pub rule-7 : SizesRule (v .version) (v .lower) (v .upper)
+abbrev pub Rules : Values → Type 0
+Rules v = (k : ℕ) → Rule v k
 
--- every rule before the second holds, before the third, and so on
-abbrev pub Before2 : Values → Type 0
-Before2 v = WeightRule (v .weight)
-
-abbrev pub Before3 : Values → Type 0
-Before3 v = Before2 v × WidthRule (v .width)
-
-abbrev pub Before4 : Values → Type 0
-Before4 v = Before3 v × TypeRule (v .fstype)
-
-abbrev pub Before5 : Values → Type 0
-Before5 v = Before4 v × RightsRule (v .version) (v .fstype)
-
-abbrev pub Before6 : Values → Type 0
-Before6 v = Before5 v × SelectionRule (v .version) (v .fsselection)
-
-abbrev pub Before7 : Values → Type 0
-Before7 v = Before6 v × RegularRule (v .fsselection)
-
--- "first rule broken, 1 to 7"
-pub data FirstBroken (v : Values) : ℕ → Type 0 where
-  broken-1 : (WeightRule (v .weight) → ⊥) → FirstBroken v 1
-  broken-2 : Before2 v → (WidthRule (v .width) → ⊥) → FirstBroken v 2
-  broken-3 : Before3 v → (TypeRule (v .fstype) → ⊥) → FirstBroken v 3
-  broken-4 : Before4 v → (RightsRule (v .version) (v .fstype) → ⊥) → FirstBroken v 4
-  broken-5 : Before5 v → (SelectionRule (v .version) (v .fsselection) → ⊥) → FirstBroken v 5
-  broken-6 : Before6 v → (RegularRule (v .fsselection) → ⊥) → FirstBroken v 6
-  broken-7 : Before7 v → (SizesRule (v .version) (v .lower) (v .upper) → ⊥) → FirstBroken v 7
+-- "first rule broken, 1 to 7": rule k does not hold, and every rule before it does
+pub record FirstBroken (v : Values) (k : ℕ) : Type 0 where
+  pub broken : Rule v k → ⊥
+  pub earlier : (j : ℕ) → j < k → Rule v j

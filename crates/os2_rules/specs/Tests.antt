@@ -1,7 +1,12 @@
 -- The value rules as tests: each definition says when its rule is broken.
 use Prim.Native.Nat.{ℕ, _+_}
-use mathlib.Core.Bool.{Bool, true, false, cond, _&&_, _||_}
+use mathlib.Core.Bool.{Bool, true, false, _&&_, _||_}
+use mathlib.Core.Option.{Option, none, some}
+use mathlib.Core.List.{List, [], _∷_}
 use lib.Dec.{ltb, leb, eqb}
+use lib.ListN.{getD}
+use Rattle.outcomes.specs.Firsts.{when, firstOf}
+use Rattle.outcomes.specs.Outcomes.{Refusal, carrying}
 use Rattle.os2_rules.specs.Bits.{bit, bits}
 use Rattle.os2_rules.specs.declared.Values.{Values}
 use Rattle.os2_rules.specs.declared.Verdict.{Verdict}
@@ -32,19 +37,32 @@ regularBroken fsselection = anySet 6 1 fsselection && (anySet 0 1 fsselection ||
 unfoldable pub sizesBroken : ℕ → ℕ → ℕ → Bool
 sizesBroken version lower upper = eqb version 5 && leb upper lower
 
--- the first rule broken, in the rules' order
-unfoldable pub verdictOf : Values → Verdict
-verdictOf v =
-    cond (weightBroken (v .weight)) (Broken 1)
-    (cond (widthBroken (v .width)) (Broken 2)
-    (cond (typeBroken (v .fstype)) (Broken 3)
-    (cond (rightsBroken (v .version) (v .fstype)) (Broken 4)
-    (cond (selectionBroken (v .version) (v .fsselection)) (Broken 5)
-    (cond (regularBroken (v .fsselection)) (Broken 6)
-    (cond (sizesBroken (v .version) (v .lower) (v .upper)) (Broken 7)
-    Kept))))))
+-- the tests in the rules' order; there is no rule 0
+abbrev pub tests : Values → List Bool
+tests v =
+    false ∷
+    weightBroken (v .weight) ∷
+    widthBroken (v .width) ∷
+    typeBroken (v .fstype) ∷
+    rightsBroken (v .version) (v .fstype) ∷
+    selectionBroken (v .version) (v .fsselection) ∷
+    regularBroken (v .fsselection) ∷
+    sizesBroken (v .version) (v .lower) (v .upper) ∷
+    []
 
--- whether no rule is broken
-abbrev pub isKept : Verdict → Bool
-isKept Kept = true
-isKept (Broken k) = false
+-- rule k is broken
+unfoldable pub broken : Values → ℕ → Bool
+broken v k = getD (tests v) k false
+
+-- 3 with "first rule broken, 1 to 7"
+unfoldable pub verdictOf : Values → Option Refusal
+verdictOf v = firstOf (λ k. when (broken v k) (carrying 3 k)) 8
+
+-- the code's verdict in these words, and whether it is that no rule is broken
+abbrev pub said : Verdict → Option Refusal
+said Kept = none
+said (Broken k) = some (carrying 3 k)
+
+abbrev pub kept : Option Refusal → Bool
+kept none = true
+kept (some r) = false

@@ -2,7 +2,7 @@
 // Document 01, "The 'OS/2' fields", value rules 1 to 7. The reader and the writer share them.
 ghost use mathlib.Core.Path.{_≡_};
 ghost use mathlib.Core.Bool.{_||_};
-ghost use Rattle.os2_rules.specs.Tests.{weightBroken, widthBroken, typeBroken, rightsBroken, selectionBroken, regularBroken, sizesBroken, verdictOf, isKept};
+ghost use Rattle.os2_rules.specs.Tests.{weightBroken, widthBroken, typeBroken, rightsBroken, selectionBroken, regularBroken, sizesBroken, verdictOf, said, kept};
 
 // The values that the rules look at. The optical sizes are those of version 5 and are not looked at in another.
 pub struct Values {
@@ -25,7 +25,7 @@ pub enum Verdict {
 
 // Applies the rules in order.
 pub fn judge(v: Values) -> Verdict
-    ensures { λ r. ⌜ r ≡ verdictOf v ⌝ }
+    ensures { λ r. ⌜ said r ≡ verdictOf v ⌝ }
 {
     if weight_broken(v.weight) {
         return Verdict::Broken(1);
@@ -53,7 +53,7 @@ pub fn judge(v: Values) -> Verdict
 
 // Whether no rule is broken.
 pub fn keeps(v: Values) -> bool
-    ensures { λ r. ⌜ r ≡ isKept (verdictOf v) ⌝ }
+    ensures { λ r. ⌜ r ≡ kept (verdictOf v) ⌝ }
 {
     if weight_broken(v.weight) {
         return false;

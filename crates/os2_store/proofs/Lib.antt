@@ -1,2 +1,9 @@
+pub mod Codes
+pub mod Images
+pub mod Writings
+pub mod RoundTrips
+pub mod Outcomes
+pub mod Bounds
+pub mod WriteSettling
 pub mod Signs
 pub mod Steps

@@ -18,8 +18,8 @@ use mir.Facts.{toZ-ofZ}
 use borrow.Author.Tests.{lt-ltb, le-ltb, ltb-true, leb-true, leb-false}
 use Rattle.bigendian.specs.Numbers.{stored}
 use Rattle.os2_fields.specs.declared.catalogue.Field.{Field}
-use Rattle.os2.specs.Writing.{fits, codeOf}
-use Rattle.os2.proofs.Codes.{code-small, code-plain}
+use Rattle.os2_store.specs.Writing.{fits, codeOf}
+use Rattle.os2_store.proofs.Codes.{code-small, code-plain}
 use Rattle.os2_fields.specs.Reading.{Wide, Sound}
 
 -- the register's number back as it was

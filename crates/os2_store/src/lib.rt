@@ -1,7 +1,7 @@
 // The two passes of the 'OS/2' writer over the 48 fields: whether each number fits its field, and the store of the fields.
 // Document 01, "The writer", refusal 8 and what is written.
-// Relies on `os2` for the definitions of what is written, `os2_fields` for the catalogue and `bigendian` for the stores. The caller is the writer,
-// which shows that the version is one and the room long enough.
+// Relies on `os2_fields` for the catalogue and `bigendian` for the stores. The caller is the writer, which shows that the version is one and the room
+// long enough.
 ghost use mathlib.Core.Path.{_≡_};
 ghost use Prim.Native.Nat.{_^_};
 ghost use mathlib.Core.Bool.{true, not, _&&_};
@@ -9,25 +9,28 @@ ghost use lib.Dec.{leb};
 ghost use lib.ListN.{length};
 ghost use lib.IntN.{pos};
 ghost use Rattle.bigendian.specs.Numbers.{stored};
-ghost use Rattle.os2.specs.Writing.{fits, codeOf, lowestMisfit, image};
+ghost use Rattle.outcomes.specs.Firsts.{firstOf};
+ghost use Rattle.os2_fields.specs.Catalogue.{fieldCount};
+ghost use Rattle.os2_store.specs.Writing.{fits, codeOf, misfitAt, image};
 ghost use Rattle.os2_store.specs.Storing.{Storable, Ready, misfitFound};
 ghost use Rattle.os2_fields.specs.Reading.{Wide, Sound};
+use os2_fields::FIELD_COUNT;
 use os2_fields::Field;
 
-// The lowest field of the version that its number does not fit, or 48.
+// The lowest field of the version that its number does not fit, or the number of fields.
 pub fn lowest_misfit(numbers: &[i64], version: u32) -> usize
-    requires { ⌜ length (now numbers) ≡ 48 ⌝ }
-    ensures { λ r. ⌜ misfitFound r ≡ lowestMisfit version (now (numbers .entry)) 48 ⌝ }
+    requires { ⌜ length (now numbers) ≡ fieldCount ⌝ }
+    ensures { λ r. ⌜ misfitFound r ≡ firstOf (misfitAt version (now (numbers .entry))) fieldCount ⌝ }
 {
     let fields = os2_fields::entries();
     let mut k: usize = 0;
-    while k < 48 {
+    while k < FIELD_COUNT {
         if misfits(fields[k], numbers[k], version) {
             return k;
         }
         k += 1;
     }
-    48
+    FIELD_COUNT
 }
 
 // Whether the version has a field that its number does not fit.
@@ -70,11 +73,11 @@ fn top(width: u8) -> i64
 // Stores the fields that the version has.
 pub fn store(numbers: &[i64], version: u32, room: &mut [u8])
     requires { ⌜ Ready version (now numbers) (length (now room)) ⌝ }
-    ensures { λ _. ⌜ now (room .exit) ≡ image version (now (numbers .entry)) (now (room .entry)) 48 ⌝ }
+    ensures { λ _. ⌜ now (room .exit) ≡ image version (now (numbers .entry)) (now (room .entry)) fieldCount ⌝ }
 {
     let fields = os2_fields::entries();
     let mut k: usize = 0;
-    while k < 48 {
+    while k < FIELD_COUNT {
         let f = fields[k];
         let came = f.since as u32;
         if version < came {

@@ -1,4 +1,4 @@
 pub mod Signs
 pub mod Steps
-pub mod Outcomes
 pub mod Rewriting
+pub mod Numbers

@@ -9,9 +9,10 @@ use lib.Signed.{ltZ}
 use mir.Syntax.{w64}
 use mir.Val.{SFits, toZ, ofZ}
 use borrow.Author.Tests.{ltb-true, ltb-false}
+use Rattle.level.specs.Levels.{newest}
 use Rattle.os2_fields.specs.declared.catalogue.Field.{Field}
-use Rattle.os2.specs.Writing.{fits, codeOf, noVersion}
-use Rattle.os2.proofs.Codes.{code-small}
+use Rattle.os2_store.specs.Writing.{fits, codeOf, noVersion}
+use Rattle.os2_store.proofs.Codes.{code-small}
 use Rattle.os2_store.proofs.Signs.{kept}
 
 pub word-small : (f : Field) (z : ℤ) → f .width ≡ 2 → fits f z ≡ true → codeOf f z < 65536
@@ -22,15 +23,15 @@ unfolding noVersion
 version-under (pos n) e = absurd (omega (arith, ltb-true n 0 e))
 version-under (negsuc n) e = refl
 
-pub version-above : (x : ℤ) → ltZ x (pos 0) ≡ false → ltZ (pos 5) x ≡ noVersion x
+pub version-above : (x : ℤ) → ltZ x (pos 0) ≡ false → ltZ (pos newest) x ≡ noVersion x
 unfolding noVersion
 version-above (pos n) e = refl
 version-above (negsuc n) e = absurd (true≢false e)
 
-pub version-known : (x : ℤ) → SFits w64 x → noVersion x ≡ false → (x ≡ pos (natAbs (toZ w64 (ofZ w64 x)))) × (natAbs (toZ w64 (ofZ w64 x)) ≤ 5)
+pub version-known : (x : ℤ) → SFits w64 x → noVersion x ≡ false → (x ≡ pos (natAbs (toZ w64 (ofZ w64 x)))) × (natAbs (toZ w64 (ofZ w64 x)) ≤ newest)
 unfolding noVersion
 version-known x h e = rw (kept x h) (go x e)
   where
-    go : (z : ℤ) → noVersion z ≡ false → (z ≡ pos (natAbs z)) × (natAbs z ≤ 5)
-    go (pos n) d = (refl, ltb-false 5 n d)
+    go : (z : ℤ) → noVersion z ≡ false → (z ≡ pos (natAbs z)) × (natAbs z ≤ newest)
+    go (pos n) d = (refl, ltb-false newest n d)
     go (negsuc n) d = absurd (true≢false d)

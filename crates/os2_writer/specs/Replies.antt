@@ -1,8 +1,8 @@
 -- The enums of the code in document 01's words and numbers, case by case.
 use Prim.Native.Nat.{ℕ}
-use mathlib.Core.Option.{Option, none, some}
-use Rattle.os2.specs.Replies as Reader·
-use Rattle.os2.specs.Outcomes.{Outcome, refused, answered}
+use mathlib.Core.Option.{some}
+use Rattle.outcomes.specs.Outcomes.{Refusal, bare, carrying, Outcome, refused, answered}
+use Rattle.os2_acceptance.specs.Replies as Reader·
 use Rattle.os2_writer.specs.declared.WriteRefusal.{WriteRefusal}
 use Rattle.os2_writer.specs.declared.WriteRefusal.the-variants.{NoVersion, NoRoom, DoesNotFit, RuleBroken}
 use Rattle.os2_writer.specs.declared.Written.{Written}
@@ -10,23 +10,21 @@ use Rattle.os2_writer.specs.declared.Written.the-variants as Written·
 use Rattle.os2_writer.specs.declared.Rewritten.{Rewritten}
 use Rattle.os2_writer.specs.declared.Rewritten.the-variants as Rewritten·
 
-abbrev pub refusalNumber : WriteRefusal → ℕ
-refusalNumber NoVersion = 4
-refusalNumber NoRoom = 5
-refusalNumber (DoesNotFit k) = 8
-refusalNumber (RuleBroken n) = 3
+-- a refusal's number, and what it carries
+abbrev pub saidRefusal : WriteRefusal → Refusal
+saidRefusal NoVersion = bare 4
+saidRefusal NoRoom = bare 5
+saidRefusal (DoesNotFit k) = carrying 8 k
+saidRefusal (RuleBroken n) = carrying 3 n
 
-abbrev pub refusalCarries : WriteRefusal → Option ℕ
-refusalCarries NoVersion = none
-refusalCarries NoRoom = none
-refusalCarries (DoesNotFit k) = some k
-refusalCarries (RuleBroken n) = some n
+abbrev refusedBy : Refusal → Outcome ℕ
+refusedBy r = refused (r .number) (r .carried)
 
 abbrev pub saidWritten : Written → Outcome ℕ
 saidWritten (Written·.Size n) = answered n
-saidWritten (Written·.Refused r) = refused (refusalNumber r) (refusalCarries r)
+saidWritten (Written·.Refused r) = refusedBy (saidRefusal r)
 
 abbrev pub saidRewritten : Rewritten → Outcome ℕ
 saidRewritten (Rewritten·.Size n) = answered n
-saidRewritten (Rewritten·.Unread r) = refused (Reader·.refusalNumber r) (Reader·.refusalCarries r)
-saidRewritten (Rewritten·.Unwritten r) = refused (refusalNumber r) (refusalCarries r)
+saidRewritten (Rewritten·.Unread r) = refusedBy (Reader·.saidRefusal r)
+saidRewritten (Rewritten·.Unwritten r) = refusedBy (saidRefusal r)

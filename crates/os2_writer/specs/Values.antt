@@ -6,7 +6,7 @@ use mathlib.Core.List.{List}
 use lib.ListN.{length}
 use lib.IntN.{ℤ}
 use Rattle.os2_fields.specs.Catalogue.{fieldOf}
-use Rattle.os2.specs.Writing.{numberFor, fits}
+use Rattle.os2_store.specs.Writing.{numberFor, fits}
 
 -- the number for field k is one of an unsigned field of two bytes, and fits it
 pub record WordFor (xs : List ℤ) (k : ℕ) : Type 0 where

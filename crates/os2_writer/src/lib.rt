@@ -1,20 +1,24 @@
 // The 'OS/2' writer: 48 whole numbers, stored as a table in lent room, and the rewriting of a table.
 // Document 01, "The writer", in its order of refusals: 4, 5, 8, 3.
-// Relies on `os2` for the definitions of what is written, `os2_store` for the passes over the fields, `os2_fields` for the catalogue and
+// Relies on `os2_store` for what is written and the passes over the fields, `os2_acceptance` for what level 5 accepts, `os2_fields` for the catalogue and
 // `os2_rules` for the value rules.
 ghost use mathlib.Core.Path.{_≡_};
+ghost use mathlib.Core.Option.{none};
 ghost use Prim.Native.Nat.{_≤_};
-ghost use mathlib.Core.Bool.{cond};
-ghost use lib.Dec.{ltb};
 ghost use lib.ListN.{length};
-ghost use Rattle.os2.specs.Writing.{codeFor, noVersion, valuesFor, write, roomAfter};
-ghost use Rattle.os2.specs.Outcomes.{accepted};
-ghost use Rattle.os2.specs.Acceptance.{judged};
-ghost use Rattle.os2_writer.specs.Replies.{refusalNumber, saidWritten, saidRewritten};
-ghost use Rattle.os2_writer.specs.Rewriting.{Reading, rewritten, roomRewritten};
+ghost use Rattle.outcomes.specs.Outcomes.{refusalOf};
+ghost use Rattle.level.specs.Levels.{newest};
+ghost use Rattle.os2_fields.specs.Catalogue.{fieldCount};
+ghost use Rattle.os2_fields.specs.Fields.{opticalSize, valuesOf};
+ghost use Rattle.os2_acceptance.specs.Acceptance.{judged};
+ghost use Rattle.os2_store.specs.Writing.{codeFor, versionFor, noVersion, write, roomAfter};
 ghost use Rattle.os2_store.specs.Storing.{Fitting};
+ghost use Rattle.os2_writer.specs.Replies.{saidRefusal, saidWritten, saidRewritten};
+ghost use Rattle.os2_writer.specs.Rewriting.{Reading, rewritten, roomRewritten};
 ghost use Rattle.os2_writer.specs.Values.{WordFor};
-use os2::Checked;
+use level::Level;
+use os2_acceptance::Checked;
+use os2_fields::FIELD_COUNT;
 use os2_fields::FSSELECTION;
 use os2_fields::FSTYPE;
 use os2_fields::LOWER_SIZE;
@@ -24,6 +28,7 @@ use os2_fields::WEIGHT;
 use os2_fields::WIDTH;
 use os2_rules::Values;
 use os2_rules::Verdict;
+use outcomes::Told;
 
 // Why nothing is written.
 pub enum WriteRefusal {
@@ -38,15 +43,15 @@ pub enum WriteRefusal {
 }
 
 impl WriteRefusal {
-    // Document 01's number.
-    pub fn number(self) -> u32
-        ensures { λ r. ⌜ r ≡ refusalNumber self ⌝ }
+    // Its number, and what it carries.
+    pub fn told(self) -> Told
+        ensures { λ r. ⌜ refusalOf r ≡ saidRefusal self ⌝ }
     {
         match self {
-            WriteRefusal::NoVersion => 4,
-            WriteRefusal::NoRoom => 5,
-            WriteRefusal::DoesNotFit(_) => 8,
-            WriteRefusal::RuleBroken(_) => 3,
+            WriteRefusal::NoVersion => Told::bare(4),
+            WriteRefusal::NoRoom => Told::bare(5),
+            WriteRefusal::DoesNotFit(field) => Told::carrying(8, field as usize),
+            WriteRefusal::RuleBroken(rule) => Told::carrying(3, rule as usize),
         }
     }
 }
@@ -63,13 +68,13 @@ pub enum Rewritten {
     // The bytes written: the size of the table's version.
     Size(usize),
     // The reader's refusal at level 5: 2, or 3 with the first rule broken.
-    Unread(os2::Refusal),
+    Unread(os2_acceptance::Refusal),
     // The writer's refusal: 4, the table's version being above 5, or 5.
     Unwritten(WriteRefusal),
 }
 
 // Writes the table of 48 whole numbers, of which number 0 is the version, and answers its size.
-pub fn write(numbers: [i64; 48], room: &mut [u8]) -> Written
+pub fn write(numbers: [i64; FIELD_COUNT], room: &mut [u8]) -> Written
     ensures { λ r. ⌜ (saidWritten r ≡ write numbers (length (now (room .entry)))) × (now (room .exit) ≡ roomAfter numbers (now (room .entry))) ⌝ }
 {
     match check(&numbers, room.len()) {
@@ -86,7 +91,7 @@ pub fn write(numbers: [i64; 48], room: &mut [u8]) -> Written
 pub fn rewrite(table: &[u8], room: &mut [u8]) -> Rewritten
     ensures { λ r. ⌜ (saidRewritten r ≡ rewritten (now (table .entry)) (length (now (room .entry)))) × (now (room .exit) ≡ roomRewritten (now (table .entry)) (now (room .entry))) ⌝ }
 {
-    match os2::check(table, 5) {
+    match os2_acceptance::judge(table, Level::NEWEST) {
         Checked::Refused(why) => Rewritten::Unread(why),
         Checked::Accepted => match write(read(table), room) {
             Written::Size(size) => Rewritten::Size(size),
@@ -97,7 +102,7 @@ pub fn rewrite(table: &[u8], room: &mut [u8]) -> Rewritten
 
 // The four refusals, or the size.
 fn check(numbers: &[i64], room: usize) -> Written
-    requires { ⌜ length (now numbers) ≡ 48 ⌝ }
+    requires { ⌜ length (now numbers) ≡ fieldCount ⌝ }
     ensures { λ r. ⌜ saidWritten r ≡ write (now (numbers .entry)) room ⌝ }
 {
     let first = numbers[VERSION];
@@ -110,7 +115,7 @@ fn check(numbers: &[i64], room: usize) -> Written
         return Written::Refused(WriteRefusal::NoRoom);
     }
     let k = os2_store::lowest_misfit(numbers, version);
-    if k < 48 {
+    if k < FIELD_COUNT {
         return Written::Refused(WriteRefusal::DoesNotFit(k as u32));
     }
     match os2_rules::judge(values(numbers, version)) {
@@ -128,8 +133,8 @@ fn no_version(x: i64) -> bool
 
 // What the value rules look at.
 fn values(numbers: &[i64], version: u32) -> Values
-    requires { ⌜ Fitting version (now numbers) ⌝ }
-    ensures { λ r. ⌜ r ≡ valuesFor version (now (numbers .entry)) ⌝ }
+    requires { ⌜ Fitting version (now numbers) × (versionFor (now numbers) ≡ version) ⌝ }
+    ensures { λ r. ⌜ r ≡ valuesOf (codeFor (now (numbers .entry))) ⌝ }
 {
     Values {
         version: version as u16,
@@ -145,7 +150,7 @@ fn values(numbers: &[i64], version: u32) -> Values
 // An optical size, 0 where the version has none.
 fn optical_size(numbers: &[i64], version: u32, k: usize) -> u16
     requires { ⌜ (5 ≤ version → WordFor (now numbers) k) ⌝ }
-    ensures { λ r. ⌜ r ≡ cond (ltb version 5) 0 (codeFor (now (numbers .entry)) k) ⌝ }
+    ensures { λ r. ⌜ r ≡ opticalSize version (codeFor (now (numbers .entry)) k) ⌝ }
 {
     if version < 5 {
         return 0;
@@ -162,15 +167,15 @@ fn word(numbers: &[i64], k: usize) -> u16
 }
 
 // The whole numbers in the fields that a table's version has, of a table that level 5 accepts; 0 for the other fields.
-fn read(table: &[u8]) -> [i64; 48]
-    requires { ⌜ judged 5 (now table) ≡ accepted ⌝ }
+fn read(table: &[u8]) -> [i64; FIELD_COUNT]
+    requires { ⌜ judged newest (now table) ≡ none ⌝ }
     ensures { λ r. ⌜ Reading (now (table .entry)) r ⌝ }
 {
     let fields = os2_fields::entries();
     let version = os2_fields::version(table);
-    let mut numbers: [i64; 48] = [0; 48];
+    let mut numbers: [i64; FIELD_COUNT] = [0; FIELD_COUNT];
     let mut k: usize = 0;
-    while k < 48 {
+    while k < FIELD_COUNT {
         let f = fields[k];
         let since = f.since as u16;
         if version < since {

@@ -3,11 +3,12 @@
 // The stored output is made by the second program, `writer_rows`.
 use libc::STDOUT_FILENO;
 use os2::Answer;
-use os2::Refusal;
 use os2::Reply;
+use os2_fields::FIELD_COUNT;
 use os2_writer::Rewritten;
-use os2_writer::WriteRefusal;
 use os2_writer::Written;
+use outcomes::Carried;
+use outcomes::Told;
 
 fn main() {
     version(0);
@@ -26,8 +27,8 @@ fn main() {
 }
 
 // Numbers of a version that it accepts, some of them negative or the largest of their fields.
-fn sample(version: i64) -> [i64; 48] {
-    let mut numbers: [i64; 48] = [0; 48];
+fn sample(version: i64) -> [i64; FIELD_COUNT] {
+    let mut numbers: [i64; FIELD_COUNT] = [0; FIELD_COUNT];
     numbers[0] = version;
     numbers[1] = -1;
     numbers[2] = 400;
@@ -63,9 +64,9 @@ fn version(version: i64) {
 }
 
 // A sign for each field, read at level 5: = for its number, - for absent, ! for anything else.
-fn read_back(numbers: [i64; 48], table: &[u8]) {
+fn read_back(numbers: [i64; FIELD_COUNT], table: &[u8]) {
     let mut k: usize = 0;
-    while k < 48 {
+    while k < FIELD_COUNT {
         let sign = mark(os2::field(table, 5, k as u32), numbers[k]);
         text(&[sign]);
         k += 1;
@@ -166,7 +167,7 @@ fn rewriting(table: &[u8]) {
 }
 
 // The numbers written into a room that is long enough for every version.
-fn row(numbers: [i64; 48]) {
+fn row(numbers: [i64; FIELD_COUNT]) {
     let mut room: [u8; 101] = [170; 101];
     say(os2_writer::write(numbers, &mut room));
     ends(room[0], room[100]);
@@ -178,7 +179,7 @@ fn say(written: Written) {
             size_line(b"written ", size);
         }
         Written::Refused(why) => {
-            say_refusal(why);
+            refused(why.told());
         }
     }
 }
@@ -189,45 +190,27 @@ fn say_rewritten(rewritten: Rewritten) {
             size_line(b"rewritten ", size);
         }
         Rewritten::Unread(why) => {
-            say_reader(why);
+            refused(why.told());
         }
         Rewritten::Unwritten(why) => {
-            say_refusal(why);
+            refused(why.told());
         }
     }
 }
 
 // Document 01's number, and what the refusal carries.
-fn say_refusal(why: WriteRefusal) {
-    refused(why.number());
-    match why {
-        WriteRefusal::DoesNotFit(field) => {
-            number(b" at ", field);
-        }
-        WriteRefusal::RuleBroken(rule) => {
-            number(b" at ", rule);
-        }
-        _ => {}
-    }
-}
-
-fn say_reader(why: Refusal) {
-    refused(why.number());
-    match why {
-        Refusal::RuleBroken(rule) => {
-            number(b" at ", rule);
-        }
-        _ => {}
+fn refused(why: Told) {
+    number(b"refused ", why.number);
+    let carried = why.carried;
+    match carried {
+        Carried::This(place) => size_line(b" at ", place),
+        Carried::Nothing => {}
     }
 }
 
 fn size_line(word: &[u8], size: usize) {
     text(word);
     io::print_decimal(STDOUT_FILENO, size as u64);
-}
-
-fn refused(n: u32) {
-    number(b"refused ", n);
 }
 
 fn number(word: &[u8], n: u32) {

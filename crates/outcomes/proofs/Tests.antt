@@ -67,3 +67,12 @@ module _ {P : Type 0} (t : Bool) where
       back : (s : Bool) → t ≡ s → (P → ⊥) → t ≡ true
       back true e h = e
       back false e h = absurd (h (x .0 e))
+
+-- ---- both ways of two laws put together
+
+module _ {A B C D : Type 0} (f : A ↔ C) (g : B ↔ D) where
+  pub implies : (A → B) ↔ (C → D)
+  implies = (λ h c. g .0 (h (f .1 c)), λ h a. g .1 (h (f .0 a)))
+
+  pub either : (A ⊎ B) ↔ (C ⊎ D)
+  either = (⊎-elim (λ a. inl (f .0 a)) (λ b. inr (g .0 b)), ⊎-elim (λ c. inl (f .1 c)) (λ d. inr (g .1 d)))

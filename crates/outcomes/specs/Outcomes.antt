@@ -31,6 +31,15 @@ unfoldable pub unless : {A : Type 0} → Option Refusal → Outcome A → Outcom
 unless (some r) o = refused (r .number) (r .carried)
 unless none o = o
 
+-- a refusal as an outcome
+abbrev pub refusing : {A : Type 0} → Refusal → Outcome A
+refusing r = refused (r .number) (r .carried)
+
+-- what follows from what was found, or else this refusal
+unfoldable pub foundOr : {A B : Type 0} → Refusal → Option A → (A → Outcome B) → Outcome B
+foundOr r (some x) f = f x
+foundOr r none f = refusing r
+
 -- the code's refusal in these words
 abbrev pub carriedOf : Carried → Option ℕ
 carriedOf Nothing = none

@@ -2,6 +2,8 @@
 ghost use Prim.Native.Nat.{_≤_, _<_};
 ghost use lib.ListN.{length};
 use libc::STDOUT_FILENO;
+use outcomes::Carried;
+use outcomes::Told;
 
 // Where the line that starts at a place ends.
 pub fn line_end(lines: &[u8], start: usize) -> usize
@@ -89,4 +91,13 @@ pub fn numbered(before: &[u8], number: u64) {
 
 pub fn text(s: &[u8]) {
     io::write_all(STDOUT_FILENO, s);
+}
+
+// A refusal, with what it carries.
+pub fn refused(why: Told) {
+    numbered(b"refused ", why.number as u64);
+    let carried = why.carried;
+    if let Carried::This(k) = carried {
+        numbered(b" at ", k as u64);
+    }
 }

@@ -3,11 +3,13 @@ ghost use Prim.Native.Nat.{_≤_};
 use crate::lines::byte_at;
 use crate::lines::number;
 use crate::lines::numbered;
+use crate::lines::refused;
 use crate::lines::text;
-use name::Place;
 use name::Verdict;
-use name_lookup::Numbered;
-use name_strings::NumberedVersion;
+use name_lookup::Answer;
+use name_lookup::Text;
+use name_strings::PostscriptAnswer;
+use name_strings::VersionAnswer;
 
 // Where the numbers start in a table's line, behind `= name `.
 const NUMBERS: usize = 7;
@@ -27,57 +29,52 @@ pub fn answer(question: &[u8], line: &[u8]) {
 fn ask(question: &[u8], table: &[u8]) {
     match byte_at(question, 0) {
         b'c' => verdict(name::check(table)),
-        b'l' => string(look_up(question, table)),
-        b'p' => string(name_strings::postscript(table).said()),
-        _ => version(name_strings::version(table).said()),
+        b'l' => look_up(question, table),
+        b'p' => postscript(name_strings::postscript(table)),
+        _ => version(name_strings::version(table)),
     }
 }
 
 // The string that has the four numbers of a line.
-fn look_up(question: &[u8], table: &[u8]) -> Numbered {
-    let platform = part(question, 1);
-    let encoding = part(question, 2);
-    let language = part(question, 3);
-    let name = part(question, 4);
-    name_lookup::lookup(table, platform, encoding, language, name).said()
-}
-
-// A part of a key: the number that is a line's word k.
-fn part(line: &[u8], k: usize) -> u16 {
-    (number(line, k) % 65536) as u16
+fn look_up(question: &[u8], table: &[u8]) {
+    let platform = number(question, 1);
+    let encoding = number(question, 2);
+    let language = number(question, 3);
+    let name = number(question, 4);
+    let looked_up = name_lookup::lookup(table, platform, encoding, language, name);
+    let found = looked_up.answer;
+    match found {
+        Answer::Found(x) => string(x),
+        Answer::Refused(why) => refused(why.told()),
+    }
 }
 
 fn verdict(found: Verdict) {
     match found {
         Verdict::Accepted => text(b"accepted"),
-        Verdict::Refused(refusal) => refused(refusal.number(), refusal.place()),
+        Verdict::Refused(why) => refused(why.told()),
     }
 }
 
-fn string(found: Numbered) {
+fn postscript(found: PostscriptAnswer) {
     match found {
-        Numbered::Text(start, len) => {
-            numbered(b"start ", start as u64);
-            numbered(b" length ", len as u64);
-        }
-        Numbered::Refusal(number, place) => refused(number, place),
+        PostscriptAnswer::Name(x) => string(x),
+        PostscriptAnswer::Refused(why) => refused(why.told()),
     }
 }
 
-fn version(found: NumberedVersion) {
+fn string(found: Text) {
+    numbered(b"start ", found.start as u64);
+    numbered(b" length ", found.len as u64);
+}
+
+fn version(found: VersionAnswer) {
     match found {
-        NumberedVersion::Number(major, minor) => {
+        VersionAnswer::Number { major, minor } => {
             numbered(b"", major as u64);
             numbered(b" ", minor as u64);
         }
-        NumberedVersion::Refusal(number, place) => refused(number, place),
-    }
-}
-
-fn refused(number: u32, place: Place) {
-    numbered(b"refused ", number as u64);
-    if let Place::At(i) = place {
-        numbered(b" at ", i as u64);
+        VersionAnswer::Refused(why) => refused(why.told()),
     }
 }
 

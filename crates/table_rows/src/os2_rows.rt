@@ -6,6 +6,7 @@ use crate::lines::byte_at;
 use crate::lines::last_word;
 use crate::lines::number;
 use crate::lines::numbered;
+use crate::lines::refused;
 use crate::lines::text;
 use libc::STDOUT_FILENO;
 use os2::Answer;
@@ -14,7 +15,6 @@ use os2::Checked;
 use os2::OpticalAnswer;
 use os2::OpticalReply;
 use os2::Question;
-use os2::Refusal;
 use os2::Reply;
 use os2::RightsAnswer;
 use os2::RightsReply;
@@ -100,20 +100,13 @@ fn question(line: &[u8], own: u32) -> Question {
 fn check(r: Checked) {
     match r {
         Checked::Accepted => text(b"accepted"),
-        Checked::Refused(why) => refused(why),
-    }
-}
-
-fn refused(why: Refusal) {
-    numbered(b"refused ", why.number() as u64);
-    if let Refusal::RuleBroken(rule) = why {
-        numbered(b" at ", rule as u64);
+        Checked::Refused(why) => refused(why.told()),
     }
 }
 
 fn field_or_bit(r: Reply) {
     match r {
-        Reply::Refused(why) => refused(why),
+        Reply::Refused(why) => refused(why.told()),
         Reply::Answered(a) => match a {
             Answer::Absent => text(b"absent"),
             Answer::NotKnown => text(b"not known"),
@@ -133,7 +126,7 @@ fn whole(x: i64) {
 
 fn rights(r: RightsReply) {
     match r {
-        RightsReply::Refused(why) => refused(why),
+        RightsReply::Refused(why) => refused(why.told()),
         RightsReply::Answered(a) => match a {
             RightsAnswer::Absent => text(b"absent"),
             RightsAnswer::NotKnown => text(b"not known"),
@@ -149,7 +142,7 @@ fn rights(r: RightsReply) {
 
 fn style(r: StyleReply) {
     match r {
-        StyleReply::Refused(why) => refused(why),
+        StyleReply::Refused(why) => refused(why.told()),
         StyleReply::Answered(a) => match a {
             StyleAnswer::Absent => text(b"absent"),
             StyleAnswer::NotKnown => text(b"not known"),
@@ -163,7 +156,7 @@ fn style(r: StyleReply) {
 
 fn optical(r: OpticalReply) {
     match r {
-        OpticalReply::Refused(why) => refused(why),
+        OpticalReply::Refused(why) => refused(why.told()),
         OpticalReply::Answered(a) => match a {
             OpticalAnswer::Absent => text(b"absent"),
             OpticalAnswer::NotKnown => text(b"not known"),

@@ -11,13 +11,13 @@ use lib.ListN.{length, drop}
 use lib.Seq.{drop-nil}
 use Rattle.characters.specs.Strings.{char}
 use Rattle.characters.proofs.Laws.{char-within}
-use Rattle.characters.specs.Digits.{longer}
-use Rattle.version_text.specs.Versions.{digit, digits, groupEnd, figure, groupFigure}
-use Rattle.version_text.proofs.Tests.{digit-range}
+use Rattle.characters.specs.Digits.{digit, longer}
+use Rattle.characters.proofs.Digits.{digit-is}
+use Rattle.version_text.specs.Versions.{digits, groupEnd, figure, groupFigure}
 
 -- a digit stands within the text, and so does a period
 pub digit-within : (l : List ℕ) (i : ℕ) → digit (char l i) ≡ true → i < length l
-digit-within l i e = char-within l i (omega (arith, digit-range (char l i) e .0))
+digit-within l i e = char-within l i (omega (arith, digit-is (char l i) .0 e .0))
 
 pub period-within : (l : List ℕ) (i : ℕ) → char l i ≡ 46 → i < length l
 period-within l i e = char-within l i (omega arith)

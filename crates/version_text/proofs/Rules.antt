@@ -1,24 +1,32 @@
--- The definition gives what document 01's propositions say: a start yields a number exactly where it qualifies, so the first that yields one is the first that qualifies.
+-- The definition gives what document 01's propositions say: a start yields a number exactly where it qualifies, so the first that yields one is the
+-- first that qualifies.
 -- Assumes nothing.
 use Prim.Native.Nat.{ℕ, zero, suc, _+_, _-_, _/_, _%_, _<_, _≤_}
 use native.Mathlib.Omega.{arith}
 use mathlib.Core.Path.{_≡_, refl, sym, ap, _∙_}
-use mathlib.Core.Bool.{Bool, true, false, cond, not, true≢false, and-eq-true-iff}
+use mathlib.Core.Bool.{Bool, true, false, not, _&&_, true≢false}
+use mathlib.Core.Option.{Option, none, some}
 use mathlib.Core.List.{List}
 use mathlib.Core.Logic.{_↔_, _⊎_, inl, inr, ⊎-elim}
 use lib.Dec.{eqb}
 use lib.ListN.{length, drop}
-use borrow.Author.Tests.{not-true, ltb-true, eqb-true, eq-eqb}
+use borrow.Author.Tests.{not-true, ltb-true}
+use Rattle.outcomes.specs.Firsts.{when, firstOf}
+use Rattle.outcomes.specs.Outcomes.{bare, Outcome, refused, answered, unless}
+use Rattle.outcomes.proofs.Tests.{equal, and-true, fails}
+use Rattle.outcomes.proofs.Laws.{when-none, when-some, first-all, first-exactly, unless-answered}
+use Rattle.characters.specs.Digits.{digit, Digit}
 use Rattle.characters.specs.Strings.{characters, char, odd}
+use Rattle.characters.proofs.Digits.{digit-is}
 use Rattle.characters.proofs.Laws.{char-within, char-pairs, length-pairs}
-use Rattle.version_text.specs.Versions.{digit, period, digits, groupEnd, figure, groupFigure, small, mayStart, isNumber, numberAt, firstOf, versionIn, Said, number, refusal, said}
-use Rattle.characters.specs.Digits.{Digit}
+use Rattle.version_text.specs.Versions.{period, digits, groupEnd, figure, groupFigure, small, mayStart, isNumber}
+use Rattle.version_text.specs.Versions.{Figures, numberAt, foundOr25, versionIn}
 use Rattle.version_text.specs.Qualifying.{Group, Qualifies, First, Odd, Right, HighByteZero}
-use Rattle.version_text.specs.declared.Version.{Version}
-use Rattle.version_text.specs.declared.Version.the-variants.{Number, NoNumber}
-use Rattle.version_text.proofs.Tests.{all-true, digit-range, digit-is, digit-not}
 use Rattle.version_text.proofs.Groups.{digit-within, digits-more, digits-each, digits-end, digits-are, Read}
-use Rattle.version_text.proofs.Starts.{yields, first-found, first-nothing, first-empty, first-number}
+use Rattle.version_text.proofs.Starts.{yields}
+
+digit-not : (c : ℕ) → (Digit c → ⊥) → digit c ≡ false
+digit-not c = fails (digit c) (digit-is c) .1
 
 -- ---- a digit group
 
@@ -29,8 +37,8 @@ group-there l i d s =
     let e : i + digits (drop i l) - i ≡ digits (drop i l) = omega arith in
     record {
       some = omega (arith, digits-more l i d);
-      digits = λ m g h. let f : i + (m - i) ≡ m = omega arith in digit-range (char l m) (rw f at (digits-each (m - i) l i (omega arith)));
-      ends = λ q. true≢false (sym (digit-is _ q) ∙ digits-end (digits (drop i l)) l i refl);
+      digits = λ m g h. let f : i + (m - i) ≡ m = omega arith in digit-is (char l m) .0 (rw f at (digits-each (m - i) l i (omega arith)));
+      ends = λ q. true≢false (sym (digit-is _ .1 q) ∙ digits-end (digits (drop i l)) l i refl);
       reads = ap (figure l i) e;
       below = ltb-true _ _ s;
     }
@@ -41,11 +49,11 @@ unfolding groupEnd groupFigure
 group-read l i j a g =
     let e : i + (j - i) ≡ j = omega (arith, g .some) in
     let n : digits (drop i l) ≡ j - i =
-    digits-are (j - i) l i (λ m h. digit-is (char l (i + m)) (g .digits (i + m) (omega arith) (omega arith))) (rw e (digit-not (char l j) (g .ends))) in
+    digits-are (j - i) l i (λ m h. digit-is (char l (i + m)) .1 (g .digits (i + m) (omega arith) (omega arith))) (rw e (digit-not (char l j) (g .ends))) in
     record { ends = rw n (sym e); held = rw (n, g .reads) (omega (arith, g .below)) }
 
 group-digit : (l : List ℕ) (i j a : ℕ) → Group l i j a → digit (char l i) ≡ true
-group-digit l i j a g = digit-is (char l i) (g .digits i (omega arith) (g .some))
+group-digit l i j a g = digit-is (char l i) .1 (g .digits i (omega arith) (g .some))
 
 -- ---- a start
 
@@ -54,9 +62,9 @@ alone-there : (l : List ℕ) (i : ℕ) → mayStart l i ≡ true → (digit (cha
 unfolding mayStart
 alone-there l zero e = (e, λ h q. absurd (omega arith))
 alone-there l (suc i) e =
-    let p = and-eq-true-iff (not (digit (char l i))) (digit (char l (suc i))) .0 e in
+    let p = and-true (not (digit (char l i))) (digit (char l (suc i))) .0 e in
     let f : suc i - 1 ≡ i = omega arith in
-    (p .1, λ h q. true≢false (sym (digit-is (char l i) (rw f at q)) ∙ not-true _ (p .0)))
+    (p .1, λ h q. true≢false (sym (digit-is (char l i) .1 (rw f at q)) ∙ not-true _ (p .0)))
 
 may-start-there : (l : List ℕ) (i : ℕ) → digit (char l i) ≡ true → (0 < i → Digit (char l (i - 1)) → ⊥) → mayStart l i ≡ true
 unfolding mayStart
@@ -70,32 +78,36 @@ tests : (l : List ℕ) (i k : ℕ) → isNumber l i k ≡ true
     → (mayStart l i ≡ true) × ((char l (groupEnd l i) ≡ 46) × ((digit (char l k) ≡ true) × ((small (groupFigure l i) ≡ true) × (small (groupFigure l k) ≡ true))))
 unfolding isNumber period
 tests l i k e =
-    let p = all-true (mayStart l i) (period (char l (groupEnd l i))) (digit (char l k)) (small (groupFigure l i)) (small (groupFigure l k)) e in
-    (p .0, (eqb-true _ _ (p .1 .0), p .1 .1))
+    let point = period (char l (groupEnd l i)) in
+    let p = and-true (mayStart l i && point && digit (char l k) && small (groupFigure l i)) (small (groupFigure l k)) .0 e in
+    let q = and-true (mayStart l i && point && digit (char l k)) (small (groupFigure l i)) .0 (p .0) in
+    let r = and-true (mayStart l i && point) (digit (char l k)) .0 (q .0) in
+    let s = and-true (mayStart l i) point .0 (r .0) in
+    (s .0, (equal _ _ .0 (s .1), (r .1, (q .1, p .1))))
 
 -- a start yields a number exactly where it qualifies
-qualifies : (l : List ℕ) (i a b : ℕ) → (numberAt l i ≡ Number a b) ↔ Qualifies l i a b
+qualifies : (l : List ℕ) (i a b : ℕ) → (numberAt l i ≡ some (record { major = a; minor = b })) ↔ Qualifies l i a b
 unfolding numberAt
-qualifies l i a b = (by (isNumber l i (groupEnd l i + 1)) refl, back)
+qualifies l i a b = (there, back)
   where
-    by : (t : Bool) → isNumber l i (groupEnd l i + 1) ≡ t
-        → cond t (Number (groupFigure l i) (groupFigure l (groupEnd l i + 1))) NoNumber ≡ Number a b → Qualifies l i a b
-    by false e q = let z : _≡_ {A = ℕ} 0 1 = cc in absurd (omega arith)
-    by true e q =
-        let p = tests l i (groupEnd l i + 1) e in
-        let u : groupFigure l i ≡ a = cc in
-        let v : groupFigure l (groupEnd l i + 1) ≡ b = cc in
+    there : numberAt l i ≡ some (record { major = a; minor = b }) → Qualifies l i a b
+    there e =
+        let k : ℕ = groupEnd l i + 1 in
+        let w = when-some (isNumber l i k) _ _ .0 e in
+        let p = tests l i k (w .0) in
+        let u : groupFigure l i ≡ a = ap (λ (f : Figures). f .major) (w .1) in
+        let v : groupFigure l k ≡ b = ap (λ (f : Figures). f .minor) (w .1) in
         let s = alone-there l i (p .0) in
         record {
           j = groupEnd l i;
-          k = groupEnd l (groupEnd l i + 1);
+          k = groupEnd l k;
           first = rw u at (group-there l i (s .0) (p .1 .1 .1 .0));
           period = p .1 .0;
-          second = rw v at (group-there l (groupEnd l i + 1) (p .1 .1 .0) (p .1 .1 .1 .1));
+          second = rw v at (group-there l k (p .1 .1 .0) (p .1 .1 .1 .1));
           alone = s .1;
         }
 
-    back : Qualifies l i a b → numberAt l i ≡ Number a b
+    back : Qualifies l i a b → numberAt l i ≡ some (record { major = a; minor = b })
     back q =
         yields l i (q .j) a (group-read l i (q .j) a (q .first)) (q .k) b (group-read l (q .j + 1) (q .k) b (q .second))
         (may-start-there l i (group-digit l i (q .j) a (q .first)) (q .alone))
@@ -105,104 +117,116 @@ qualifies l i a b = (by (isNumber l i (groupEnd l i + 1)) refl, back)
         (q .second .below)
 
 -- and nothing exactly where it does not
-nothing : (l : List ℕ) (i : ℕ) → (numberAt l i ≡ NoNumber) ↔ ((a b : ℕ) → Qualifies l i a b → ⊥)
-nothing l i = (none, by (numberAt l i) refl)
+nothing : (l : List ℕ) (i : ℕ) → (numberAt l i ≡ none) ↔ ((a b : ℕ) → Qualifies l i a b → ⊥)
+nothing l i = (there, by (numberAt l i) refl)
   where
-    none : numberAt l i ≡ NoNumber → (a b : ℕ) → Qualifies l i a b → ⊥
-    none e a b q =
-        let n : numberAt l i ≡ Number a b = qualifies l i a b .1 q in
+    there : numberAt l i ≡ none → (a b : ℕ) → Qualifies l i a b → ⊥
+    there e a b q =
+        let n = qualifies l i a b .1 q in
         let z : _≡_ {A = ℕ} 0 1 = cc in
         omega arith
 
-    by : (v : Version) → numberAt l i ≡ v → ((a b : ℕ) → Qualifies l i a b → ⊥) → v ≡ NoNumber
-    by (Number a b) e h = absurd (h a b (qualifies l i a b .0 e))
-    by NoNumber e h = refl
+    by : (o : Option Figures) → numberAt l i ≡ o → ((a b : ℕ) → Qualifies l i a b → ⊥) → o ≡ none
+    by (some f) e h = absurd (h (f .major) (f .minor) (qualifies l i (f .major) (f .minor) .0 e))
+    by none e h = refl
 
 -- ---- the first start
 
-first : (l : List ℕ) (a b : ℕ) → (firstOf (numberAt l) (length l) ≡ Number a b) ↔ First l a b
-first l a b = (there, back)
-  where
-    there : firstOf (numberAt l) (length l) ≡ Number a b → First l a b
-    there e =
-        let r = first-number (numberAt l) (length l) a b e in
-        record {
-          start = r .start;
-          here = qualifies l (r .start) a b .0 (r .here);
-          least = λ i x y h. nothing l i .0 (r .before i h) x y;
-        }
+module _ (l : List ℕ) where
+  first : (a b : ℕ) → (firstOf (numberAt l) (length l) ≡ some (record { major = a; minor = b })) ↔ First l a b
+  first a b = (there, back)
+    where
+      there : firstOf (numberAt l) (length l) ≡ some (record { major = a; minor = b }) → First l a b
+      there e =
+          let r = first-exactly (numberAt l) (length l) _ .0 e in
+          record {
+            start = r .place;
+            here = qualifies l (r .place) a b .0 (r .here);
+            least = λ i x y h. nothing l i .0 (r .earlier i h) x y;
+          }
 
-    back : First l a b → firstOf (numberAt l) (length l) ≡ Number a b
-    back r =
-        first-found (numberAt l) (length l) (r .start) a b
-        (digit-within l (r .start) (group-digit l (r .start) (r .here .j) a (r .here .first)))
-        (first-empty (numberAt l) (r .start) (λ i h. nothing l i .1 (λ x y. r .least i x y h)))
-        (qualifies l (r .start) a b .1 (r .here))
+      back : First l a b → firstOf (numberAt l) (length l) ≡ some (record { major = a; minor = b })
+      back r = first-exactly (numberAt l) (length l) _ .1 (record {
+        place = r .start;
+        inside = digit-within l (r .start) (group-digit l (r .start) (r .here .j) a (r .here .first));
+        here = qualifies l (r .start) a b .1 (r .here);
+        earlier = λ i h. nothing l i .1 (λ x y. r .least i x y h);
+      })
 
-none-first : (l : List ℕ) → (firstOf (numberAt l) (length l) ≡ NoNumber) ↔ ((i a b : ℕ) → Qualifies l i a b → ⊥)
-none-first l = (there, back)
-  where
-    there : firstOf (numberAt l) (length l) ≡ NoNumber → (i a b : ℕ) → Qualifies l i a b → ⊥
-    there e i a b q =
-        nothing l i .0
-        (first-nothing (numberAt l) (length l) e i (digit-within l i (group-digit l i (q .j) a (q .first))))
-        a
-        b
-        q
-
-    back : ((i a b : ℕ) → Qualifies l i a b → ⊥) → firstOf (numberAt l) (length l) ≡ NoNumber
-    back h = first-empty (numberAt l) (length l) (λ i g. nothing l i .1 (h i))
+  none-first : (firstOf (numberAt l) (length l) ≡ none) ↔ ((i a b : ℕ) → Qualifies l i a b → ⊥)
+  none-first = (
+    λ e i a b q. nothing l i .0 (first-all (numberAt l) (length l) .0 e i (digit-within l i (group-digit l i (q .j) a (q .first)))) a b q,
+    λ h. first-all (numberAt l) (length l) .1 (λ i g. nothing l i .1 (h i)),
+  )
 
 -- ---- the string's bytes
 
-odd-is : (wide : Bool) (bytes : List ℕ) → odd wide bytes ≡ true → Odd wide bytes
+odd-is : (wide : Bool) (bytes : List ℕ) → (odd wide bytes ≡ true) ↔ Odd wide bytes
 unfolding odd
-odd-is wide bytes e =
-    let p = and-eq-true-iff wide (eqb (length bytes % 2) 1) .0 e in
-    (p .0, eqb-true _ _ (p .1))
+odd-is wide bytes = (
+  λ e. let p = and-true wide (eqb (length bytes % 2) 1) .0 e in (p .0, equal _ _ .0 (p .1)),
+  λ o. and-true wide (eqb (length bytes % 2) 1) .1 (o .0, equal _ _ .1 (o .1)),
+)
 
-odd-not : (wide : Bool) (bytes : List ℕ) → odd wide bytes ≡ false → Odd wide bytes → ⊥
-unfolding odd
-odd-not wide bytes e o = true≢false (rw (o .0, eq-eqb _ _ (o .1)) at e)
+-- what is answered is what was found, and 25 is that nothing was
+found-is : (o : Option Figures) (f : Figures) → foundOr25 o ≡ answered f → o ≡ some f
+found-is (some g) f e = cc
+found-is none f e = let z : _≡_ {A = ℕ} 0 1 = cc in absurd (omega arith)
 
-said-number : (v : Version) (a b : ℕ) → said v ≡ number a b → v ≡ Number a b
-said-number (Number x y) a b e = cc
-said-number NoNumber a b e = let z : _≡_ {A = ℕ} 0 1 = cc in absurd (omega arith)
+missing-is : (o : Option Figures) → foundOr25 o ≡ refused 25 none → o ≡ none
+missing-is (some g) e = let z : _≡_ {A = ℕ} 0 1 = cc in absurd (omega arith)
+missing-is none e = refl
 
-said-refusal : (v : Version) → said v ≡ refusal 25 → v ≡ NoNumber
-said-refusal (Number x y) e = let z : _≡_ {A = ℕ} 0 1 = cc in absurd (omega arith)
-said-refusal NoNumber e = refl
+-- nothing else is refused
+refused-is : (t : Bool) (o : Option Figures) {n : ℕ} {c : Option ℕ} → unless (when t (bare 25)) (foundOr25 o) ≡ refused n c
+    → unless (when t (bare 25)) (foundOr25 o) ≡ refused 25 none
+unfolding unless when
+refused-is true o e = refl
+refused-is false none e = refl
+refused-is false (some f) e = let z : _≡_ {A = ℕ} 0 1 = cc in absurd (omega arith)
+
+pub refused-25 : (wide : Bool) (bytes : List ℕ) {n : ℕ} {c : Option ℕ} → versionIn wide bytes ≡ refused n c → versionIn wide bytes ≡ refused 25 none
+unfolding versionIn
+refused-25 wide bytes e = refused-is (odd wide bytes) (firstOf (numberAt (characters wide bytes)) (length (characters wide bytes))) e
+
+module _ (wide : Bool) (bytes : List ℕ) where
+  found-right : (a b : ℕ) → (versionIn wide bytes ≡ answered (record { major = a; minor = b })) ↔ ((Odd wide bytes → ⊥) × First (characters wide bytes) a b)
+  unfolding versionIn
+  found-right a b =
+      let l = characters wide bytes in
+      let even = fails (odd wide bytes) (odd-is wide bytes) in
+      let passed = when-none (odd wide bytes) (bare 25) in
+      let whole = unless-answered (when (odd wide bytes) (bare 25)) (foundOr25 (firstOf (numberAt l) (length l))) (record { major = a; minor = b }) in (
+        λ q. let p = whole .0 q in (even .0 (passed .0 (p .0)), first l a b .0 (found-is _ _ (p .1))),
+        λ p. whole .1 (passed .1 (even .1 (p .0)), ap foundOr25 (first l a b .1 (p .1))),
+      )
+
+  missing-right : (versionIn wide bytes ≡ refused 25 none) ↔ (Odd wide bytes ⊎ ((i a b : ℕ) → Qualifies (characters wide bytes) i a b → ⊥))
+  unfolding versionIn unless when
+  missing-right = by (odd wide bytes) refl
+    where
+      by : (t : Bool) → odd wide bytes ≡ t
+          → (unless (when t (bare 25)) (foundOr25 (firstOf (numberAt (characters wide bytes)) (length (characters wide bytes)))) ≡ refused 25 none)
+          ↔ (Odd wide bytes ⊎ ((i a b : ℕ) → Qualifies (characters wide bytes) i a b → ⊥))
+      by true e = (λ q. inl (odd-is wide bytes .0 e), λ s. refl)
+      by false e = (
+        λ q. inr (none-first (characters wide bytes) .0 (missing-is _ q)),
+        ⊎-elim (λ o. absurd (true≢false (sym (odd-is wide bytes .1 o) ∙ e))) (λ h. ap foundOr25 (none-first (characters wide bytes) .1 h)),
+      )
 
 -- document 01's rules hold of the definition
-pub version-right : Right (λ wide bytes. said (versionIn wide bytes))
-unfolding versionIn
-version-right = record { found = λ wide bytes a b. found wide bytes a b (odd wide bytes) refl; none = λ wide bytes. none wide bytes (odd wide bytes) refl }
-  where
-    found : (wide : Bool) (bytes : List ℕ) (a b : ℕ) (t : Bool) → odd wide bytes ≡ t
-        → (said (cond t NoNumber (firstOf (numberAt (characters wide bytes)) (length (characters wide bytes)))) ≡ number a b)
-        ↔ ((Odd wide bytes → ⊥) × First (characters wide bytes) a b)
-    found wide bytes a b true e = (λ q. let z : _≡_ {A = ℕ} 0 1 = cc in absurd (omega arith), λ p. absurd (p .0 (odd-is wide bytes e)))
-    found wide bytes a b false e = (
-      λ q. (odd-not wide bytes e, first (characters wide bytes) a b .0 (said-number _ a b q)),
-      λ p. ap said (first (characters wide bytes) a b .1 (p .1)),
-    )
-
-    none : (wide : Bool) (bytes : List ℕ) (t : Bool) → odd wide bytes ≡ t
-        → (said (cond t NoNumber (firstOf (numberAt (characters wide bytes)) (length (characters wide bytes)))) ≡ refusal 25)
-        ↔ (Odd wide bytes ⊎ ((i a b : ℕ) → Qualifies (characters wide bytes) i a b → ⊥))
-    none wide bytes true e = (λ q. inl (odd-is wide bytes e), λ s. refl)
-    none wide bytes false e = (
-      λ q. inr (none-first (characters wide bytes) .0 (said-refusal _ q)),
-      λ s. ⊎-elim (λ o. absurd (odd-not wide bytes e o)) (λ h. ap said (none-first (characters wide bytes) .1 h)) s,
-    )
+pub version-right : Right versionIn
+version-right = record { found = found-right; missing = missing-right }
 
 -- and of no other reader: they settle every answer
-pub version-only : (read : Bool → List ℕ → Said) → Right read → (wide : Bool) (bytes : List ℕ) → read wide bytes ≡ said (versionIn wide bytes)
+pub version-only : (read : Bool → List ℕ → Outcome Figures) → Right read → (wide : Bool) (bytes : List ℕ) → read wide bytes ≡ versionIn wide bytes
 version-only read right wide bytes = by (versionIn wide bytes) refl
   where
-    by : (v : Version) → versionIn wide bytes ≡ v → read wide bytes ≡ said v
-    by (Number a b) e = right .found wide bytes a b .1 (version-right .found wide bytes a b .0 (ap said e))
-    by NoNumber e = right .none wide bytes .1 (version-right .none wide bytes .0 (ap said e))
+    by : (o : Outcome Figures) → versionIn wide bytes ≡ o → read wide bytes ≡ versionIn wide bytes
+    by (answered f) e = right .found wide bytes (f .major) (f .minor) .1 (found-right wide bytes (f .major) (f .minor) .0 e) ∙ sym e
+    by (refused n c) e =
+        let r = refused-25 wide bytes e in
+        right .missing wide bytes .1 (missing-right wide bytes .0 r) ∙ sym r
 
 pub high-byte-zero : HighByteZero
 high-byte-zero bytes i h =

@@ -2,12 +2,14 @@
 use Prim.Native.Nat.{ℕ, _+_, _-_, _*_, _%_, _<_, _≤_}
 use mathlib.Core.Path.{_≡_}
 use mathlib.Core.Bool.{Bool, true}
+use mathlib.Core.Option.{none}
 use mathlib.Core.List.{List}
 use mathlib.Core.Logic.{_↔_, _⊎_}
 use lib.ListN.{length, getD}
+use Rattle.outcomes.specs.Outcomes.{Outcome, refused, answered}
 use Rattle.characters.specs.Digits.{Digit}
 use Rattle.characters.specs.Strings.{characters, char}
-use Rattle.version_text.specs.Versions.{figure, Said, number, refusal}
+use Rattle.version_text.specs.Versions.{figure, Figures}
 
 -- the characters from i to before j are digits, at least one and as long as they go, and their figure is a, below 65,535
 pub record Group (l : List ℕ) (i j a : ℕ) : Type 0 where
@@ -37,11 +39,11 @@ abbrev pub Odd : Bool → List ℕ → Type 0
 Odd wide bytes = (wide ≡ true) × (length bytes % 2 ≡ 1)
 
 -- a reader answers a number exactly where it stands at the first start that qualifies, and 25 exactly where none does or the length is odd
-pub record Right (read : Bool → List ℕ → Said) : Type 0 where
+pub record Right (read : Bool → List ℕ → Outcome Figures) : Type 0 where
   pub found : (wide : Bool) (bytes : List ℕ) (a b : ℕ)
-      → (read wide bytes ≡ number a b) ↔ ((Odd wide bytes → ⊥) × First (characters wide bytes) a b)
-  pub none : (wide : Bool) (bytes : List ℕ)
-      → (read wide bytes ≡ refusal 25) ↔ (Odd wide bytes ⊎ ((i a b : ℕ) → Qualifies (characters wide bytes) i a b → ⊥))
+      → (read wide bytes ≡ answered (record { major = a; minor = b })) ↔ ((Odd wide bytes → ⊥) × First (characters wide bytes) a b)
+  pub missing : (wide : Bool) (bytes : List ℕ)
+      → (read wide bytes ≡ refused 25 none) ↔ (Odd wide bytes ⊎ ((i a b : ℕ) → Qualifies (characters wide bytes) i a b → ⊥))
 
 -- "a two-byte character is a digit or period only if its high byte is 0"
 abbrev pub HighByteZero : Type 0

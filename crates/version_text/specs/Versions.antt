@@ -1,18 +1,18 @@
 -- Document 01, "PostScript name and version number": the version number in the characters of a string.
 use Prim.Native.Nat.{ℕ, zero, suc, _+_}
 use mathlib.Core.Bool.{Bool, cond, not, _&&_}
+use mathlib.Core.Option.{Option, none, some}
 use mathlib.Core.List.{List, [], _∷_}
-use lib.Dec.{leb, ltb, eqb}
+use lib.Dec.{ltb, eqb}
 use lib.ListN.{length, drop}
-use Rattle.characters.specs.Digits.{longer}
+use Rattle.outcomes.specs.Firsts.{when, firstOf}
+use Rattle.outcomes.specs.Outcomes.{bare, Outcome, refused, answered, unless}
+use Rattle.characters.specs.Digits.{digit, longer}
 use Rattle.characters.specs.Strings.{characters, char, odd}
 use Rattle.version_text.specs.declared.Version.{Version}
 use Rattle.version_text.specs.declared.Version.the-variants.{Number, NoNumber}
 
--- the codes of the digits 0 to 9, and of the period; a two-byte character with a high byte above 0 has none of them
-unfoldable pub digit : ℕ → Bool
-digit c = leb 48 c && leb c 57
-
+-- the code of the period; a two-byte character with a high byte above 0 is none, and no digit
 unfoldable pub period : ℕ → Bool
 period c = eqb c 46
 
@@ -48,32 +48,28 @@ unfoldable pub isNumber : List ℕ → ℕ → ℕ → Bool
 isNumber l i k =
     mayStart l i && period (char l (groupEnd l i)) && digit (char l k) && small (groupFigure l i) && small (groupFigure l k)
 
+-- the figures before and after the period
+pub record Figures : Type 0 where
+  pub major : ℕ
+  pub minor : ℕ
+
 -- the number that a start yields; the second group starts right after the period
-unfoldable pub numberAt : List ℕ → ℕ → Version
+unfoldable pub numberAt : List ℕ → ℕ → Option Figures
 numberAt l i =
     let k : ℕ = groupEnd l i + 1 in
-    cond (isNumber l i k) (Number (groupFigure l i) (groupFigure l k)) NoNumber
+    when (isNumber l i k) (record { major = groupFigure l i; minor = groupFigure l k })
 
--- the first of two answers that is a number
-abbrev pub orElse : Version → Version → Version
-orElse (Number a b) v = Number a b
-orElse NoNumber v = v
+-- the number found, or 25: "no version number in the string"
+abbrev pub foundOr25 : Option Figures → Outcome Figures
+foundOr25 (some f) = answered f
+foundOr25 none = refused 25 none
 
--- "the first start, from the left, that yields a number wins": of the starts below n
-unfoldable pub firstOf : (ℕ → Version) → ℕ → Version
-firstOf yields zero = NoNumber
-firstOf yields (suc n) = orElse (firstOf yields n) (yields n)
-
--- the version number in a string's bytes; "a two-byte string of odd length gives 25"
-unfoldable pub versionIn : Bool → List ℕ → Version
+-- "the first start, from the left, that yields a number wins"; "a two-byte string of odd length gives 25"
+unfoldable pub versionIn : Bool → List ℕ → Outcome Figures
 versionIn wide bytes =
-    cond (odd wide bytes) NoNumber (firstOf (numberAt (characters wide bytes)) (length (characters wide bytes)))
+    unless (when (odd wide bytes) (bare 25)) (foundOr25 (firstOf (numberAt (characters wide bytes)) (length (characters wide bytes))))
 
--- an answer in document 01's numbers: the two figures, or the refusal's number
-pub data Said : Type 0 where
-  number : ℕ → ℕ → Said
-  refusal : ℕ → Said
-
-abbrev pub said : Version → Said
-said (Number a b) = number a b
-said NoNumber = refusal 25
+-- the code's answer so
+abbrev pub said : Version → Outcome Figures
+said (Number a b) = answered (record { major = a; minor = b })
+said NoNumber = refused 25 none

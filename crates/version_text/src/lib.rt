@@ -1,11 +1,11 @@
 // The version number in a lent string, one byte a character or two (wide).
-// Document 01, "PostScript name and version number", and refusal 25. It takes any bytes.
+// Document 01, "PostScript name and version number", and refusal 25. It takes any bytes, and relies on `characters` for the string's characters and
+// digits, and on `outcomes` for what an answer says.
 ghost use mathlib.Core.Path.{_≡_};
-ghost use mathlib.Core.Bool.{true};
-ghost use Prim.Native.Nat.{_≤_, min};
 ghost use Rattle.characters.specs.Strings.{characters, char};
-ghost use Rattle.characters.specs.Digits.{longer};
-ghost use Rattle.version_text.specs.Versions.{digit, mayStart, versionIn};
+ghost use Rattle.characters.specs.Digits.{digit};
+ghost use Rattle.version_text.specs.Versions.{mayStart, versionIn, said};
+use characters::with_digit;
 
 // The version number of a string.
 pub enum Version {
@@ -23,7 +23,7 @@ const LARGE: u32 = 65535;
 // The number at the first start, from the left, that yields one. A digit group is read at most once as a first
 // group and once as a second, so the search takes time linear in the text's length.
 pub fn version_of(text: &[u8], wide: bool) -> Version
-    ensures { λ r. ⌜ r ≡ versionIn wide (now (text .entry)) ⌝ }
+    ensures { λ r. ⌜ said r ≡ versionIn wide (now (text .entry)) ⌝ }
 {
     if characters::is_odd(text, wide) {
         return Version::NoNumber;
@@ -43,7 +43,7 @@ pub fn version_of(text: &[u8], wide: bool) -> Version
         let mut major = 0;
         let mut end = start;
         while digit_at(text, wide, end) {
-            major = with_digit(major, characters::code(text, wide, end));
+            major = with_digit(major, characters::code(text, wide, end), LARGE);
             end += 1;
         }
         // A period and a digit behind it.
@@ -70,7 +70,7 @@ pub fn version_of(text: &[u8], wide: bool) -> Version
                     minor: minor as u16,
                 };
             }
-            minor = with_digit(minor, characters::code(text, wide, stop));
+            minor = with_digit(minor, characters::code(text, wide, stop), LARGE);
             stop += 1;
         }
     }
@@ -93,15 +93,5 @@ fn may_start(text: &[u8], wide: bool, at: usize) -> bool
 fn digit_at(text: &[u8], wide: bool, at: usize) -> bool
     ensures { λ r. ⌜ r ≡ digit (char (characters wide (now (text .entry))) at) ⌝ }
 {
-    let code = characters::code(text, wide, at);
-    (48 <= code) & (code <= 57)
-}
-
-// The figure with one more digit behind it, held at 65,535.
-fn with_digit(figure: u32, code: u16) -> u32
-    requires { ⌜ (figure ≤ 65535) × (digit code ≡ true) ⌝ }
-    ensures { λ r. ⌜ r ≡ min 65535 (longer figure code) ⌝ }
-{
-    let value = figure * 10 + (code - 48) as u32;
-    if value < LARGE { value } else { LARGE }
+    characters::is_digit(characters::code(text, wide, at))
 }

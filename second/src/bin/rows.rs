@@ -13,7 +13,7 @@
 //!   `check at level 5`. A field's or a bit's value is decimal, or `negative`; a float is its bits.
 //!
 //! With the argument `versions` each line is a version text, and is printed with what it reads; behind
-//! them stands the text of 65,535 sevens. So are the rows of the program `version_rows` made.
+//! them stands the text of 65,535 sevens. So are the version rows of the program `leaf_rows` made.
 
 #![forbid(unsafe_code)]
 

@@ -15,9 +15,6 @@ use Rattle.characters.proofs.code.Tie as tie
 in-pairs : (c : tie.Then2) → c .before .before .before .before .args .at < length (c .before .before .before .before .args .text .now) / 2
 in-pairs c = omega (arith, rw (c .if2 .taken, length-pairs) at (c .before .before .count .ensures))
 
-count-requires : tie.Need-count-requires
-count-requires c κs = search needs
-
 returns : tie.Need-returns
 returns c = sym (char-past _ _ (omega (arith, c .before .count .ensures)))
 
@@ -33,9 +30,6 @@ returns-2 c = rw (c .before .if2 .taken, char-pairs _ _ (in-pairs (c .before)), 
 shared-slice-read-widened : tie.Need-shared-slice-read-widened
 shared-slice-read-widened c = omega (arith, rw (c .before .if2 .left) at (c .before .before .before .count .ensures))
 
-widened-requires : tie.Need-widened-requires
-widened-requires c κs = search needs
-
 returns-3 : tie.Need-returns-3
 unfolding char
 returns-3 c = rw (c .before .before .if2 .left) (c .widened .ensures)
@@ -44,11 +38,11 @@ pub code-spec : {M : Type 1} → statement M
 code-spec =
     tie.close
     (tie.spec
-    count-requires
+    (λ c κs. search needs)
     returns
     mul-read-u16
     read-u16-requires
     returns-2
     shared-slice-read-widened
-    widened-requires
+    (λ c κs. search needs)
     returns-3)

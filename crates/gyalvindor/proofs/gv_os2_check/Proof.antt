@@ -6,14 +6,8 @@ use borrow.Author.Needs.{needs}
 use Rattle.gyalvindor.proofs.gv_os2_check.Statement.{statement}
 use Rattle.gyalvindor.proofs.gv_os2_check.Tie as tie
 
-check-requires : tie.Need-check-requires
-check-requires c κs = search needs
-
-checked-words-requires : tie.Need-checked-words-requires
-checked-words-requires c κs = search needs
-
 returns : tie.Need-returns
 returns c = c .checked-words .ensures ∙ ap outcomeRefusal (c .before .check .ensures)
 
 pub gv-os2-check-spec : {M : Type 1} → statement M
-gv-os2-check-spec = tie.close (tie.spec check-requires checked-words-requires returns)
+gv-os2-check-spec = tie.close (tie.spec (λ c κs. search needs) (λ c κs. search needs) returns)

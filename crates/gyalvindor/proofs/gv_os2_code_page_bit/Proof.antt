@@ -6,15 +6,9 @@ use borrow.Author.Needs.{needs}
 use Rattle.gyalvindor.proofs.gv_os2_code_page_bit.Statement.{statement}
 use Rattle.gyalvindor.proofs.gv_os2_code_page_bit.Tie as tie
 
-code-page-bit-requires : tie.Need-code-page-bit-requires
-code-page-bit-requires c κs = search needs
-
-number-words-requires : tie.Need-number-words-requires
-number-words-requires c κs = search needs
-
 returns : tie.Need-returns
 returns c = c .number-words .ensures ∙ ap numberWords (c .before .code-page-bit .ensures)
 
 pub gv-os2-code-page-bit-spec : {M : Type 1} → statement M
 gv-os2-code-page-bit-spec =
-    tie.close (tie.spec code-page-bit-requires number-words-requires returns)
+    tie.close (tie.spec (λ c κs. search needs) (λ c κs. search needs) returns)

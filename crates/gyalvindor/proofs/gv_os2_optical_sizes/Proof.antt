@@ -6,15 +6,9 @@ use borrow.Author.Needs.{needs}
 use Rattle.gyalvindor.proofs.gv_os2_optical_sizes.Statement.{statement}
 use Rattle.gyalvindor.proofs.gv_os2_optical_sizes.Tie as tie
 
-optical-sizes-requires : tie.Need-optical-sizes-requires
-optical-sizes-requires c κs = search needs
-
-optical-words-requires : tie.Need-optical-words-requires
-optical-words-requires c κs = search needs
-
 returns : tie.Need-returns
 returns c = c .optical-words .ensures ∙ ap opticalWords (c .before .optical-sizes .ensures)
 
 pub gv-os2-optical-sizes-spec : {M : Type 1} → statement M
 gv-os2-optical-sizes-spec =
-    tie.close (tie.spec optical-sizes-requires optical-words-requires returns)
+    tie.close (tie.spec (λ c κs. search needs) (λ c κs. search needs) returns)

@@ -6,14 +6,8 @@ use borrow.Author.Needs.{needs}
 use Rattle.gyalvindor.proofs.gv_os2_rights.Statement.{statement}
 use Rattle.gyalvindor.proofs.gv_os2_rights.Tie as tie
 
-rights-requires : tie.Need-rights-requires
-rights-requires c κs = search needs
-
-rights-words-requires : tie.Need-rights-words-requires
-rights-words-requires c κs = search needs
-
 returns : tie.Need-returns
 returns c = c .rights-words .ensures ∙ ap rightsWords (c .before .rights .ensures)
 
 pub gv-os2-rights-spec : {M : Type 1} → statement M
-gv-os2-rights-spec = tie.close (tie.spec rights-requires rights-words-requires returns)
+gv-os2-rights-spec = tie.close (tie.spec (λ c κs. search needs) (λ c κs. search needs) returns)

@@ -6,14 +6,8 @@ use borrow.Author.Needs.{needs}
 use Rattle.gyalvindor.proofs.gv_os2_unicode_bit.Statement.{statement}
 use Rattle.gyalvindor.proofs.gv_os2_unicode_bit.Tie as tie
 
-unicode-bit-requires : tie.Need-unicode-bit-requires
-unicode-bit-requires c κs = search needs
-
-number-words-requires : tie.Need-number-words-requires
-number-words-requires c κs = search needs
-
 returns : tie.Need-returns
 returns c = c .number-words .ensures ∙ ap numberWords (c .before .unicode-bit .ensures)
 
 pub gv-os2-unicode-bit-spec : {M : Type 1} → statement M
-gv-os2-unicode-bit-spec = tie.close (tie.spec unicode-bit-requires number-words-requires returns)
+gv-os2-unicode-bit-spec = tie.close (tie.spec (λ c κs. search needs) (λ c κs. search needs) returns)

@@ -6,17 +6,8 @@ use borrow.Author.Needs.{needs}
 use Rattle.gyalvindor.proofs.gv_os2_write.Statement.{statement}
 use Rattle.gyalvindor.proofs.gv_os2_write.Tie as tie
 
-write-requires : tie.Need-write-requires
-write-requires c κs = search needs
-
-written-words-requires : tie.Need-written-words-requires
-written-words-requires c κs = search needs
-
-same-length : tie.Need-same-length
-same-length c = search needs
-
 returns : tie.Need-returns
 returns c = (c .written-words .ensures ∙ ap writtenWords (c .before .before .before .write .ensures .0), c .before .before .before .write .ensures .1)
 
 pub gv-os2-write-spec : {M : Type 1} → statement M
-gv-os2-write-spec = tie.close (tie.spec write-requires written-words-requires same-length returns)
+gv-os2-write-spec = tie.close (tie.spec (λ c κs. search needs) (λ c κs. search needs) (λ c. search needs) returns)

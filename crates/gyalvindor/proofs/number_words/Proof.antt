@@ -1,50 +1,22 @@
 -- Each arm is the definition at its case.
 -- Assumes nothing.
-use mathlib.Core.Path.{ap}
+use mathlib.Core.Path.{ap, _∙_}
 use lib.IntN.{ℤ}
 use mir.Facts.{toZ-ofZ}
-use Rattle.gyalvindor.specs.Words.{noRefusal, outcomeRefusal, membersOf, numberWords}
+use Rattle.gyalvindor.specs.Words.{toldWords, noRefusal, outcomeRefusal, membersOf, numberWords}
 use borrow.Author.Needs.{needs}
 use Rattle.gyalvindor.proofs.number_words.Statement.{statement}
 use Rattle.gyalvindor.proofs.number_words.Tie as tie
 
-enum-known-reply : tie.Need-enum-known-reply
-enum-known-reply c = search needs
-
-unread-requires : tie.Need-unread-requires
-unread-requires c κs = search needs
-
-new-requires : tie.Need-new-requires
-new-requires c κs = search needs
-
-enum-known-reply-2 : tie.Need-enum-known-reply-2
-enum-known-reply-2 c = search needs
-
-enum-known-answer : tie.Need-enum-known-answer
-enum-known-answer c = search needs
-
-new-requires-2 : tie.Need-new-requires-2
-new-requires-2 c κs = search needs
-
-enum-told : tie.Need-enum-told
-enum-told c = search needs
-
-new-requires-3 : tie.Need-new-requires-3
-new-requires-3 c κs = search needs
-
-enum-told-2 : tie.Need-enum-told-2
-enum-told-2 c = search needs
-
-new-requires-4 : tie.Need-new-requires-4
-new-requires-4 c κs = search needs
-
 returns : tie.Need-returns
 unfolding outcomeRefusal membersOf numberWords
-returns c = rw (c .before .before .before .reply .given .1, c .new .ensures, c .before .unread .ensures)
+returns c = rw (c .before .before .before .before .reply .given .1, c .new .ensures, c .before .refusal-words .ensures ∙ ap toldWords (c .before .before .told .ensures))
 
 returns-2 : tie.Need-returns-2
 unfolding outcomeRefusal membersOf numberWords
-returns-2 c = rw (c .before .before .before .before .before .reply2 .given .1, c .before .before .answer .given .1, c .new2 .ensures) (ap (λ (x : ℤ). record { refusal = noRefusal; kind = 1; value = x }) (toZ-ofZ (search needs)))
+returns-2 c =
+    rw (c .before .before .before .before .before .reply2 .given .1, c .before .before .answer .given .1, c .new2 .ensures)
+    (ap (λ (x : ℤ). record { refusal = noRefusal; kind = 1; value = x }) (toZ-ofZ (search needs)))
 
 returns-3 : tie.Need-returns-3
 unfolding outcomeRefusal membersOf numberWords
@@ -58,16 +30,17 @@ pub number-words-spec : {M : Type 1} → statement M
 number-words-spec =
     tie.close
     (tie.spec
-    enum-known-reply
-    unread-requires
-    new-requires
-    enum-known-reply-2
-    enum-known-answer
-    new-requires-2
-    enum-told
-    new-requires-3
-    enum-told-2
-    new-requires-4
+    (λ c. search needs)
+    (λ c κs. search needs)
+    (λ c κs. search needs)
+    (λ c κs. search needs)
+    (λ c. search needs)
+    (λ c. search needs)
+    (λ c κs. search needs)
+    (λ c. search needs)
+    (λ c κs. search needs)
+    (λ c. search needs)
+    (λ c κs. search needs)
     returns
     returns-2
     returns-3

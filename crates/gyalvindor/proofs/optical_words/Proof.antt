@@ -1,51 +1,24 @@
 -- Each arm is the definition at its case.
 -- Assumes nothing.
 use mathlib.Core.Path.{sym, ap, _∙_}
-use Rattle.os2.specs.declared.OpticalAnswer.{OpticalAnswer}
-use Rattle.os2.specs.Outcomes.{answered}
-use Rattle.os2.specs.Replies.{saidOpticalAnswer, saidOpticalReply}
-use Rattle.gyalvindor.specs.Words.{outcomeRefusal, membersOf, opticalWords}
+use Rattle.os2_answers.specs.declared.OpticalAnswer.{OpticalAnswer}
+use Rattle.outcomes.specs.Outcomes.{answered}
+use Rattle.os2_answers.specs.Replies.{saidOpticalAnswer}
+use Rattle.os2.specs.Replies.{saidOpticalReply}
+use Rattle.gyalvindor.specs.Words.{toldWords, outcomeRefusal, membersOf, opticalWords}
 use borrow.Author.Needs.{needs}
 use Rattle.gyalvindor.proofs.optical_words.Statement.{statement}
 use Rattle.gyalvindor.proofs.optical_words.Tie as tie
 
-enum-known-reply : tie.Need-enum-known-reply
-enum-known-reply c = search needs
-
-unread-requires : tie.Need-unread-requires
-unread-requires c κs = search needs
-
-new-requires : tie.Need-new-requires
-new-requires c κs = search needs
-
-enum-known-reply-2 : tie.Need-enum-known-reply-2
-enum-known-reply-2 c = search needs
-
-enum-known-answer : tie.Need-enum-known-answer
-enum-known-answer c = search needs
-
-sizes-words-requires : tie.Need-sizes-words-requires
-sizes-words-requires c κs = search needs
-
-enum-told : tie.Need-enum-told
-enum-told c = search needs
-
-new-requires-2 : tie.Need-new-requires-2
-new-requires-2 c κs = search needs
-
-enum-told-2 : tie.Need-enum-told-2
-enum-told-2 c = search needs
-
-new-requires-3 : tie.Need-new-requires-3
-new-requires-3 c κs = search needs
-
 returns : tie.Need-returns
 unfolding outcomeRefusal membersOf opticalWords
-returns c = rw (c .before .before .before .reply .given .1, c .new .ensures, c .before .unread .ensures)
+returns c = rw (c .before .before .before .before .reply .given .1, c .new .ensures, c .before .refusal-words .ensures ∙ ap toldWords (c .before .before .told .ensures))
 
 returns-2 : tie.Need-returns-2
 unfolding outcomeRefusal membersOf opticalWords
-returns-2 c = c .sizes-words .ensures ∙ ap opticalWords (sym (ap saidOpticalReply (c .before .before .before .before .before .reply2 .given .1) ∙ ap (λ (a : OpticalAnswer). answered (saidOpticalAnswer a)) (c .before .before .answer .given .1)))
+returns-2 c =
+    c .sizes-words .ensures ∙ ap opticalWords
+    (sym (ap saidOpticalReply (c .before .before .before .before .before .reply2 .given .1) ∙ ap (λ (a : OpticalAnswer). answered (saidOpticalAnswer a)) (c .before .before .answer .given .1)))
 
 returns-3 : tie.Need-returns-3
 unfolding outcomeRefusal membersOf opticalWords
@@ -59,16 +32,17 @@ pub optical-words-spec : {M : Type 1} → statement M
 optical-words-spec =
     tie.close
     (tie.spec
-    enum-known-reply
-    unread-requires
-    new-requires
-    enum-known-reply-2
-    enum-known-answer
-    sizes-words-requires
-    enum-told
-    new-requires-2
-    enum-told-2
-    new-requires-3
+    (λ c. search needs)
+    (λ c κs. search needs)
+    (λ c κs. search needs)
+    (λ c κs. search needs)
+    (λ c. search needs)
+    (λ c. search needs)
+    (λ c κs. search needs)
+    (λ c. search needs)
+    (λ c κs. search needs)
+    (λ c. search needs)
+    (λ c κs. search needs)
     returns
     returns-2
     returns-3

@@ -1,33 +1,10 @@
 -- Each arm is the definition at its case.
 -- Assumes nothing.
-use Rattle.gyalvindor.specs.Words.{writtenWords}
+use mathlib.Core.Path.{ap, _∙_}
+use Rattle.gyalvindor.specs.Words.{toldWords, writtenWords}
 use borrow.Author.Needs.{needs}
 use Rattle.gyalvindor.proofs.rewritten_words.Statement.{statement}
 use Rattle.gyalvindor.proofs.rewritten_words.Tie as tie
-
-enum-known-done : tie.Need-enum-known-done
-enum-known-done c = search needs
-
-new-requires : tie.Need-new-requires
-new-requires c κs = search needs
-
-enum-known-done-2 : tie.Need-enum-known-done-2
-enum-known-done-2 c = search needs
-
-unread-requires : tie.Need-unread-requires
-unread-requires c κs = search needs
-
-new-requires-2 : tie.Need-new-requires-2
-new-requires-2 c κs = search needs
-
-enum-known-done-3 : tie.Need-enum-known-done-3
-enum-known-done-3 c = search needs
-
-unwritten-requires : tie.Need-unwritten-requires
-unwritten-requires c κs = search needs
-
-new-requires-3 : tie.Need-new-requires-3
-new-requires-3 c κs = search needs
 
 returns : tie.Need-returns
 unfolding writtenWords
@@ -35,24 +12,26 @@ returns c = rw (c .before .before .done .given .1, c .new .ensures)
 
 returns-2 : tie.Need-returns-2
 unfolding writtenWords
-returns-2 c = rw (c .before .before .before .done2 .given .1, c .new2 .ensures, c .before .unread .ensures)
+returns-2 c = rw (c .before .before .before .before .done2 .given .1, c .new2 .ensures, c .before .refusal-words .ensures ∙ ap toldWords (c .before .before .told .ensures))
 
 returns-3 : tie.Need-returns-3
 unfolding writtenWords
-returns-3 c = rw (c .before .before .before .done3 .given .1, c .new3 .ensures, c .before .unwritten .ensures)
+returns-3 c = rw (c .before .before .before .before .done3 .given .1, c .new3 .ensures, c .before .refusal-words2 .ensures ∙ ap toldWords (c .before .before .told2 .ensures))
 
 pub rewritten-words-spec : {M : Type 1} → statement M
 rewritten-words-spec =
     tie.close
     (tie.spec
-    enum-known-done
-    new-requires
-    enum-known-done-2
-    unread-requires
-    new-requires-2
-    enum-known-done-3
-    unwritten-requires
-    new-requires-3
+    (λ c. search needs)
+    (λ c κs. search needs)
+    (λ c. search needs)
+    (λ c κs. search needs)
+    (λ c κs. search needs)
+    (λ c κs. search needs)
+    (λ c. search needs)
+    (λ c κs. search needs)
+    (λ c κs. search needs)
+    (λ c κs. search needs)
     returns
     returns-2
     returns-3)

@@ -5,24 +5,6 @@ use borrow.Author.Needs.{needs}
 use Rattle.gyalvindor.proofs.sizes_words.Statement.{statement}
 use Rattle.gyalvindor.proofs.sizes_words.Tie as tie
 
-enum-told : tie.Need-enum-told
-enum-told c = search needs
-
-new-requires : tie.Need-new-requires
-new-requires c κs = search needs
-
-enum-known-found : tie.Need-enum-known-found
-enum-known-found c = search needs
-
-new-requires-2 : tie.Need-new-requires-2
-new-requires-2 c κs = search needs
-
-enum-known-found-2 : tie.Need-enum-known-found-2
-enum-known-found-2 c = search needs
-
-new-requires-3 : tie.Need-new-requires-3
-new-requires-3 c κs = search needs
-
 returns : tie.Need-returns
 unfolding outcomeRefusal membersOf opticalWords
 returns c = rw (c .before .enum-told .given .1, c .new .ensures)
@@ -39,12 +21,12 @@ pub sizes-words-spec : {M : Type 1} → statement M
 sizes-words-spec =
     tie.close
     (tie.spec
-    enum-told
-    new-requires
-    enum-known-found
-    new-requires-2
-    enum-known-found-2
-    new-requires-3
+    (λ c. search needs)
+    (λ c κs. search needs)
+    (λ c. search needs)
+    (λ c κs. search needs)
+    (λ c. search needs)
+    (λ c κs. search needs)
     returns
     returns-2
     returns-3)

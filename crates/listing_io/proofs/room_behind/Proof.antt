@@ -9,14 +9,8 @@ use borrow.Author.Needs.{needs}
 use Rattle.listing_io.proofs.room_behind.Statement.{statement}
 use Rattle.listing_io.proofs.room_behind.Tie as tie
 
-sub-if1 : tie.Need-sub-if1
-sub-if1 c = search needs
-
 slice-aggregate-write : tie.Need-slice-aggregate-write
 slice-aggregate-write c = sym (length-take-le _ _ (omega arith))
-
-write-requires : tie.Need-write-requires
-write-requires c κs = search needs
 
 returns : tie.Need-returns
 unfolding behind
@@ -28,4 +22,4 @@ returns-2 c = (search needs, search (needs, lt-ltb, le-ltb))
 
 pub room-behind-spec : {M : Type 1} → statement M
 room-behind-spec =
-    tie.close (tie.spec sub-if1 slice-aggregate-write write-requires returns returns-2)
+    tie.close (tie.spec (λ c. search needs) slice-aggregate-write (λ c κs. search needs) returns returns-2)

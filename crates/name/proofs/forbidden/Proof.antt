@@ -2,7 +2,7 @@
 -- Assumes nothing.
 use borrow.Author.Needs.{needs}
 use Rattle.name.specs.Acceptance.{forbidden}
-use Rattle.name.proofs.Layouts.{decided}
+use Rattle.name.proofs.Tests.{decided}
 use Rattle.name.proofs.forbidden.Statement.{statement}
 use Rattle.name.proofs.forbidden.Tie as tie
 
@@ -18,12 +18,9 @@ returns-3 : tie.Need-returns-3
 unfolding forbidden
 returns-3 c = search decided
 
-add-result : tie.Need-add-result
-add-result c = search needs
-
 returns-4 : tie.Need-returns-4
 unfolding forbidden
 returns-4 c = search decided
 
 pub forbidden-spec : {M : Type 1} → statement M
-forbidden-spec = tie.close (tie.spec returns returns-2 returns-3 add-result returns-4)
+forbidden-spec = tie.close (tie.spec returns returns-2 returns-3 (λ c. search needs) returns-4)

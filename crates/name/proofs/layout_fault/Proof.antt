@@ -1,11 +1,12 @@
 -- Each test on the way settles its line of the definition; what a test leaves is what the next one needs.
 -- Assumes nothing.
-use mathlib.Core.Path.{_≡_, sym, _∙_}
+use mathlib.Core.Path.{_≡_, refl, sym, _∙_}
 use mathlib.Core.Bool.{false}
 use denote.Ref.{now}
 use borrow.Author.Needs.{needs}
-use Rattle.name.specs.Acceptance.{tooShort, otherFormat, recordsPass, tagsPass, layoutFault, _then_, when}
-use Rattle.name.proofs.Acceptances.{long, records-within, tags-within}
+use Rattle.outcomes.proofs.Laws.{when-none, when-some, here, past}
+use Rattle.name.specs.Acceptance.{tooShort, otherFormat, recordsPass, tagsPass, layoutFault}
+use Rattle.name.proofs.Tests.{long, records-within, tags-within}
 use Rattle.name.proofs.layout_fault.Statement.{statement}
 use Rattle.name.proofs.layout_fault.Tie as tie
 
@@ -21,48 +22,63 @@ records c = sym (c .before .records-pass .ensures) ∙ c .if3 .left
 tags : (c : tie.Else4) → tagsPass (now (c .before .before .before .before .before .before .before .before .before .args .table)) ≡ false
 tags c = sym (c .before .tags-pass .ensures) ∙ c .if4 .left
 
-too-short-requires : tie.Need-too-short-requires
-too-short-requires c κs = search needs
-
 returns : tie.Need-returns
-unfolding layoutFault _then_ when
-returns c = simp (← c .before .too-short .ensures, c .if1 .taken)
-
-other-format-requires : tie.Need-other-format-requires
-other-format-requires c κs = long _ (short c)
+unfolding layoutFault
+returns c = sym (here _ _ _ (sym (c .before .too-short .ensures) ∙ c .if1 .taken))
 
 returns-2 : tie.Need-returns-2
-unfolding layoutFault _then_ when
-returns-2 c = simp (short (c .before .before), ← c .before .other-format .ensures, c .if2 .taken)
-
-records-pass-requires : tie.Need-records-pass-requires
-records-pass-requires c κs = long _ (short (c .before .before))
+unfolding layoutFault
+returns-2 c = sym (past _ _ _ (short (c .before .before)) ∙ here _ _ _ (sym (c .before .other-format .ensures) ∙ c .if2 .taken))
 
 returns-3 : tie.Need-returns-3
-unfolding layoutFault _then_ when
-returns-3 c = simp (short (c .before .before .before .before), known (c .before .before), ← c .before .records-pass .ensures, c .if3 .taken)
-
-tags-pass-requires : tie.Need-tags-pass-requires
-tags-pass-requires c κs = (long _ (short (c .before .before .before .before)), records-within _ (records c))
+unfolding layoutFault
+returns-3 c =
+    let k = c .before .before in
+    sym (past _ _ _ (short (k .before .before)) ∙ past _ _ _ (known k) ∙ here _ _ _ (sym (c .before .records-pass .ensures) ∙ c .if3 .taken))
 
 returns-4 : tie.Need-returns-4
-unfolding layoutFault _then_ when
-returns-4 c = simp (short (c .before .before .before .before .before .before), known (c .before .before .before .before), records (c .before .before), ← c .before .tags-pass .ensures, c .if4 .taken)
-
-storage-misplaced-requires : tie.Need-storage-misplaced-requires
-storage-misplaced-requires c κs = record {
-  front = long _ (short (c .before .before .before .before .before .before));
-  records = records-within _ (records (c .before .before));
-  tags = tags-within _ (tags c);
-}
+unfolding layoutFault
+returns-4 c =
+    let k = c .before .before in
+    let j = k .before .before in
+    let last = here _ _ _ (sym (c .before .tags-pass .ensures) ∙ c .if4 .taken) in
+    sym (past _ _ _ (short (j .before .before)) ∙ past _ _ _ (known j) ∙ past _ _ _ (records k) ∙ last)
 
 returns-5 : tie.Need-returns-5
-unfolding layoutFault _then_ when
-returns-5 c = simp (short (c .before .before .before .before .before .before .before .before), known (c .before .before .before .before .before .before), records (c .before .before .before .before), tags (c .before .before), ← c .before .storage-misplaced .ensures, c .if5 .taken)
+unfolding layoutFault
+returns-5 c =
+    let k = c .before .before in
+    let j = k .before .before in
+    let i = j .before .before in
+    let last = when-some _ _ _ .1 (sym (c .before .storage-misplaced .ensures) ∙ c .if5 .taken, refl) in
+    sym (past _ _ _ (short (i .before .before)) ∙ past _ _ _ (known i) ∙ past _ _ _ (records j) ∙ past _ _ _ (tags k) ∙ last)
 
 returns-6 : tie.Need-returns-6
-unfolding layoutFault _then_ when
-returns-6 c = simp (short (c .before .before .before .before .before .before .before .before), known (c .before .before .before .before .before .before), records (c .before .before .before .before), tags (c .before .before), ← c .before .storage-misplaced .ensures, c .if5 .left)
+unfolding layoutFault
+returns-6 c =
+    let k = c .before .before in
+    let j = k .before .before in
+    let i = j .before .before in
+    let last = when-none _ _ .1 (sym (c .before .storage-misplaced .ensures) ∙ c .if5 .left) in
+    sym (past _ _ _ (short (i .before .before)) ∙ past _ _ _ (known i) ∙ past _ _ _ (records j) ∙ past _ _ _ (tags k) ∙ last)
+
+storage-misplaced-requires : tie.Need-storage-misplaced-requires
+storage-misplaced-requires c κs =
+    let k = c .before .before in
+    record { front = long _ .0 (short (k .before .before .before .before)); records = records-within _ .0 (records k); tags = tags-within _ .0 (tags c) }
 
 pub layout-fault-spec : {M : Type 1} → statement M
-layout-fault-spec = tie.close (tie.spec too-short-requires returns other-format-requires returns-2 records-pass-requires returns-3 tags-pass-requires returns-4 storage-misplaced-requires returns-5 returns-6)
+layout-fault-spec =
+    tie.close
+    (tie.spec
+    (λ c κs. search needs)
+    returns
+    (λ c κs. long _ .0 (short c))
+    returns-2
+    (λ c κs. long _ .0 (short (c .before .before)))
+    returns-3
+    (λ c κs. long _ .0 (short (c .before .before .before .before)))
+    returns-4
+    storage-misplaced-requires
+    returns-5
+    returns-6)

@@ -1,23 +1,24 @@
--- The first record follows none; any other is compared with the one before it.
+-- The first record follows none; the key of any other is compared with the one before it, by their numbers.
 -- Assumes nothing.
+use Prim.Native.Nat.{_-_}
+use native.Mathlib.Omega.{arith}
 use borrow.Author.Tests.{lt-ltb, le-ltb}
 use borrow.Author.Needs.{needs}
+use Rattle.bigendian.specs.Numbers.{Bytes}
+use Rattle.name_layout.proofs.Keys.{key-small, below-packed}
 use Rattle.name.specs.Acceptance.{notAbove}
 use Rattle.name.proofs.not_above.Statement.{statement}
 use Rattle.name.proofs.not_above.Tie as tie
 
-key-at-requires : tie.Need-key-at-requires
-key-at-requires c κs = search needs
-
-sub-key-at : tie.Need-sub-key-at
-sub-key-at c = search needs
-
-key-at-requires-2 : tie.Need-key-at-requires-2
-key-at-requires-2 c κs = search needs
-
 returns : tie.Need-returns
 unfolding notAbove
-returns c = simp (lt-ltb _ _ (c .before .before .if1 .taken), ← c .before .key-at .ensures, ← c .key-at2 .ensures)
+returns c =
+    let k = c .before .before .before in
+    let t = k .before .args .table .now in
+    let i = k .before .args .i in
+    let b : Bytes t = λ j. omega (arith, k .shared-slice-known .given j) in
+    let e = below-packed (key-small t b (i - 1)) (key-small t b i) in
+    simp (lt-ltb _ _ (c .before .before .if1 .taken), e, ← c .before .key-at .ensures, ← c .key-at2 .ensures)
 
 returns-2 : tie.Need-returns-2
 unfolding notAbove
@@ -25,4 +26,4 @@ returns-2 c = simp (le-ltb _ _ (c .if1 .left))
 
 pub not-above-spec : {M : Type 1} → statement M
 not-above-spec =
-    tie.close (tie.spec key-at-requires sub-key-at key-at-requires-2 returns returns-2)
+    tie.close (tie.spec (λ c. search needs) (λ c κs. search needs) (λ c κs. search needs) returns returns-2)

@@ -5,12 +5,9 @@ use Rattle.name.specs.Acceptance.{otherFormat}
 use Rattle.name.proofs.other_format.Statement.{statement}
 use Rattle.name.proofs.other_format.Tie as tie
 
-format-number-requires : tie.Need-format-number-requires
-format-number-requires c κs = search needs
-
 returns : tie.Need-returns
 unfolding otherFormat
 returns c = rw (← c .format-number .ensures)
 
 pub other-format-spec : {M : Type 1} → statement M
-other-format-spec = tie.close (tie.spec format-number-requires returns)
+other-format-spec = tie.close (tie.spec (λ c κs. search needs) returns)

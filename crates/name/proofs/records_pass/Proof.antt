@@ -5,12 +5,9 @@ use Rattle.name.specs.Acceptance.{recordsPass}
 use Rattle.name.proofs.records_pass.Statement.{statement}
 use Rattle.name.proofs.records_pass.Tie as tie
 
-records-end-requires : tie.Need-records-end-requires
-records-end-requires c κs = search needs
-
 returns : tie.Need-returns
 unfolding recordsPass
 returns c = rw (← c .records-end .ensures)
 
 pub records-pass-spec : {M : Type 1} → statement M
-records-pass-spec = tie.close (tie.spec records-end-requires returns)
+records-pass-spec = tie.close (tie.spec (λ c κs. search needs) returns)

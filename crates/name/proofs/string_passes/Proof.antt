@@ -1,52 +1,26 @@
 -- The sum is the definition's, of the numbers that were read; it cannot wrap.
 -- Assumes nothing.
+use Prim.Native.Nat.{_+_}
+use native.Mathlib.Omega.{arith}
 use borrow.Author.Needs.{needs}
+use Rattle.bigendian.specs.Numbers.{Bytes}
+use Rattle.name_layout.proofs.Layouts.{word-lt}
 use Rattle.name.specs.Acceptance.{stringPasses}
 use Rattle.name.proofs.string_passes.Statement.{statement}
 use Rattle.name.proofs.string_passes.Tie as tie
 
-storage-start-requires : tie.Need-storage-start-requires
-storage-start-requires c κs = search needs
-
-cast-start : tie.Need-cast-start
-cast-start c = search needs
-
-add-read-u16 : tie.Need-add-read-u16
-add-read-u16 c = search needs
-
-read-u16-requires : tie.Need-read-u16-requires
-read-u16-requires c κs = search needs
-
-cast-start-2 : tie.Need-cast-start-2
-cast-start-2 c = search needs
-
-add-start : tie.Need-add-start
-add-start c = search needs
-
-read-u16-requires-2 : tie.Need-read-u16-requires-2
-read-u16-requires-2 c κs = search needs
-
-cast-result : tie.Need-cast-result
-cast-result c = search needs
-
 add-result : tie.Need-add-result
-add-result c = search needs
+add-result c =
+    let k = c .before .before in
+    let t = k .before .args .table .now in
+    let b : Bytes t = λ i. omega (arith, k .shared-slice-known .given i) in
+    record { fits = omega (arith, word-lt t b 4, word-lt t b (k .before .args .at + 2)) }
 
 returns : tie.Need-returns
 unfolding stringPasses
-returns c = rw (← c .before .before .storage-start .ensures, ← c .before .read-u16 .ensures, ← c .read-u162 .ensures)
+returns c = rw (← c .before .string-start .ensures, ← c .string-length .ensures)
 
 pub string-passes-spec : {M : Type 1} → statement M
 string-passes-spec =
     tie.close
-    (tie.spec
-    storage-start-requires
-    cast-start
-    add-read-u16
-    read-u16-requires
-    cast-start-2
-    add-start
-    read-u16-requires-2
-    cast-result
-    add-result
-    returns)
+    (tie.spec (λ c κs. search needs) (λ c κs. search needs) (λ c. search needs) add-result returns)

@@ -1,37 +1,26 @@
 -- The one test is the definition's.
 -- Assumes nothing.
+use mathlib.Core.Path.{_≡_, refl, sym, _∙_, ap}
+use denote.Ref.{now}
 use borrow.Author.Needs.{needs}
-use Rattle.name.specs.Acceptance.{tagFault, when}
+use Rattle.outcomes.proofs.Laws.{when-none, when-some}
+use Rattle.name_layout.specs.Layout.{tagAt}
+use Rattle.name.specs.Acceptance.{stringPasses, tagFault}
 use Rattle.name.proofs.tag_fault.Statement.{statement}
 use Rattle.name.proofs.tag_fault.Tie as tie
 
-tags-start-requires : tie.Need-tags-start-requires
-tags-start-requires c κs = search needs
-
-mul-string-passes : tie.Need-mul-string-passes
-mul-string-passes c = search needs
-
-add-string-passes : tie.Need-add-string-passes
-add-string-passes c = search needs
-
-string-passes-requires : tie.Need-string-passes-requires
-string-passes-requires c κs = search needs
+string : (c : tie.After-string-passes) →
+    let a = c .before .before .before .args in
+    c .string-passes .result ≡ stringPasses (now (a .table)) (tagAt (now (a .table)) (a .i))
+string c = c .string-passes .ensures ∙ ap (stringPasses _) (c .before .tag-at .ensures)
 
 returns : tie.Need-returns
-unfolding tagFault when
-returns c = simp (← c .before .before .tags-start .ensures, ← c .before .string-passes .ensures, c .if1 .taken)
+unfolding tagFault
+returns c = sym (when-some _ _ _ .1 (sym (string (c .before)) ∙ c .if1 .taken, refl))
 
 returns-2 : tie.Need-returns-2
-unfolding tagFault when
-returns-2 c = simp (← c .before .before .tags-start .ensures, ← c .before .string-passes .ensures, c .if1 .left)
+unfolding tagFault
+returns-2 c = sym (when-none _ _ .1 (sym (string (c .before)) ∙ c .if1 .left))
 
 pub tag-fault-spec : {M : Type 1} → statement M
-tag-fault-spec =
-    tie.close
-    (tie.spec
-    tags-start-requires
-    mul-string-passes
-    add-string-passes
-    string-passes-requires
-    returns
-    returns-2)
+tag-fault-spec = tie.close (tie.spec (λ c κs. search needs) (λ c κs. search needs) returns returns-2)

@@ -1,67 +1,63 @@
--- A refusal is passed on; past the check the table is accepted, so halving finds what the scan finds.
+-- A refusal is passed on; past the check the table is accepted, and the search finds the record that has the key or none.
 -- Assumes nothing.
-use mathlib.Core.Path.{_≡_, sym, _∙_}
+use mathlib.Core.Path.{_≡_, sym, _∙_, ap}
+use mathlib.Core.Option.{none, some}
 use denote.Ref.{now}
 use borrow.Author.Needs.{needs}
-use Rattle.name.specs.Acceptance.{checkOf}
-use Rattle.name.specs.declared.Verdict.the-variants.{Accepted}
-use Rattle.name.specs.declared.Place.the-variants.{At}
-use Rattle.name.proofs.Acceptances.{record-inside}
-use Rattle.name_lookup.proofs.Lookups.{record-in, lookup-refused, lookup-at, lookup-none}
+use Rattle.outcomes.specs.Outcomes.{answered}
+use Rattle.outcomes.proofs.Laws.{passed-on, not-refused, found, not-found}
+use Rattle.name_layout.specs.Keys.{keyFrom}
+use Rattle.name.specs.Acceptance.{faults}
+use Rattle.name.proofs.Acceptances.{accepted-none, refused-some, record-inside}
+use Rattle.name_search.specs.Searches.{recordWith, foundOf}
+use Rattle.name_search.proofs.Finds.{find-has}
+use Rattle.name_lookup.specs.Answers.{lookupOf}
 use Rattle.name_lookup.proofs.lookup.Statement.{statement}
 use Rattle.name_lookup.proofs.lookup.Tie as tie
 
-check-requires : tie.Need-check-requires
-check-requires c κs = search needs
-
-enum-known-r : tie.Need-enum-known-r
-enum-known-r c = search needs
-
-returns : tie.Need-returns
-returns c = sym (lookup-refused _ _ _ _ _ (sym (c .before .before .before .check .ensures) ∙ c .before .r .given .1))
-
-enum-told : tie.Need-enum-told
-enum-told c = search needs
-
 -- past its check the table is accepted
-accepted : (c : tie.After-enum-told) → checkOf (now (c .before .before .before .before .args .table)) ≡ Accepted
-accepted c = sym (c .before .before .check .ensures) ∙ c .enum-told .given .1
+accepted : (c : tie.After-enum-told) → faults (now (c .before .before .before .before .args .table)) ≡ none
+accepted c = accepted-none _ (c .before .before .check .ensures) (c .enum-told .given .1)
 
--- what halving found
-at : (c : tie.After-known-told2) → c .before .before .before .find .result ≡ At (c .before .i .given .0 .0)
-at c = c .before .i .given .1
+-- what the search found
+at : (c : tie.After-known-told2) →
+    let a = c .before .before .before .before .before .before .before .before .args in
+    recordWith (now (a .table)) (keyFrom (a .platform) (a .encoding) (a .language) (a .name)) ≡ some (c .before .found .given .0 .0)
+at c = sym (c .before .before .before .find .ensures) ∙ ap foundOf (c .before .found .given .1)
 
-find-requires : tie.Need-find-requires
-find-requires c κs = accepted c
-
-enum-known-i : tie.Need-enum-known-i
-enum-known-i c = search needs
+nowhere : (c : tie.After-enum-told2) →
+    let a = c .before .before .before .before .before .before .before .args in
+    recordWith (now (a .table)) (keyFrom (a .platform) (a .encoding) (a .language) (a .name)) ≡ none
+nowhere c = sym (c .before .before .find .ensures) ∙ ap foundOf (c .enum-told2 .given .1)
 
 text-of-requires : tie.Need-text-of-requires
-text-of-requires c κs = record-inside _ (accepted (c .before .before .before .before)) _ (record-in _ _ _ _ _ (c .before .before .before .find .ensures) (at c) .0)
+text-of-requires c κs = record-inside _ (accepted (c .before .before .before .before)) _ (find-has _ _ (at c) .inside)
 
-enum-told-2 : tie.Need-enum-told-2
-enum-told-2 c = search needs
+returns : tie.Need-returns
+unfolding lookupOf
+returns c = sym (passed-on _ (refused-some _ (c .before .before .before .check .ensures) (c .before .r .given .1)))
 
 returns-2 : tie.Need-returns-2
+unfolding lookupOf
 returns-2 c =
     let k = c .before in
-    rw (c .text-of .ensures) (sym (lookup-at _ _ _ _ _ (k .before .before .before .find .ensures) (accepted (k .before .before .before .before)) (at k)))
+    ap answered (c .text-of .ensures) ∙ sym (not-refused _ (accepted (k .before .before .before .before)) ∙ found _ _ (at k))
 
 returns-3 : tie.Need-returns-3
-returns-3 c = sym (lookup-none _ _ _ _ _ (c .before .before .find .ensures) (accepted (c .before .before .before)) (c .enum-told2 .given .1))
+unfolding lookupOf
+returns-3 c = sym (not-refused _ (accepted (c .before .before .before)) ∙ not-found _ _ (nowhere c))
 
 pub lookup-spec : {M : Type 1} → statement M
 lookup-spec =
     tie.close
     (tie.spec
-    check-requires
-    enum-known-r
+    (λ c κs. search needs)
+    (λ c. search needs)
     returns
-    enum-told
-    find-requires
-    enum-known-i
+    (λ c. search needs)
+    (λ c κs. accepted c)
+    (λ c. search needs)
     text-of-requires
-    enum-told-2
+    (λ c. search needs)
     returns-2
     returns-3)

@@ -1,13 +1,16 @@
 -- The test is that of the definition.
 -- Assumes nothing.
 use borrow.Author.Tests.{lt-ltb, le-ltb}
+use Rattle.outcomes.specs.Firsts.{when}
 use Rattle.os2.proofs.at_most.Statement.{statement}
 use Rattle.os2.proofs.at_most.Tie as tie
 
 returns : tie.Need-returns
-returns c = rw (lt-ltb _ _ (c .if1 .taken), c .before .pre)
+unfolding when
+returns c = rw (lt-ltb _ _ (c .if1 .taken))
 
 returns-2 : tie.Need-returns-2
+unfolding when
 returns-2 c = rw (le-ltb _ _ (c .if1 .left))
 
 pub at-most-spec : {M : Type 1} → statement M

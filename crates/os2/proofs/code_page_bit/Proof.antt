@@ -1,68 +1,25 @@
--- The refusal, or else the answer on the bit.
+-- The refusal, or else the answer.
 -- Assumes nothing.
-use Prim.Native.Nat.{_+_, _/_, _≤_}
-use mathlib.Core.Path.{_≡_, refl, sym, ap, _∙_}
-use native.Mathlib.Nat.{le-trans}
-use native.Mathlib.Omega.{arith}
-use borrow.Author.Tests.{ltb-false}
-use Rattle.os2.specs.declared.Question.the-variants.{CodePageBit}
-use Rattle.os2.specs.Outcomes.{answered, accepted}
-use Rattle.os2.specs.Acceptance.{judged}
-use Rattle.os2.specs.Replies.{saidCheck}
-use Rattle.os2.specs.Questions.{outOfRange, since, onWhole}
-use Rattle.os2.specs.Asking.{valueOf}
-use Rattle.os2.proofs.Accepting.{open-lies}
-use Rattle.os2.proofs.Asked.{opened-parts, asked-opened, given-part}
-use Rattle.os2_fields.proofs.Tiling.{page-since}
+use mathlib.Core.Path.{sym, ap, _∙_}
+use Rattle.os2.specs.Replies.{saidOpening}
+use Rattle.os2.proofs.Asked.{asked-refused, asked-parts, asked-answered}
 use borrow.Author.Needs.{needs}
 use Rattle.os2.proofs.code_page_bit.Statement.{statement}
 use Rattle.os2.proofs.code_page_bit.Tie as tie
 
-opened-requires : tie.Need-opened-requires
-opened-requires c κs = search needs
-
-enum-known-why : tie.Need-enum-known-why
-enum-known-why c = search needs
-
-enum-told : tie.Need-enum-told
-enum-told c = search needs
-
--- the table is accepted, and the bit's number in its range
-asked : (c : tie.After-enum-told) → (c .before .before .before .before .args .number ≤ 63) × (judged (c .before .before .before .before .args .level) (c .before .before .before .before .args .table .now) ≡ accepted)
-unfolding outOfRange
-asked c =
-    let p = opened-parts _ _ (CodePageBit (c .before .before .before .before .args .number)) (sym (ap saidCheck (c .enum-told .given .1)) ∙ c .before .before .opened .ensures) in
-    (ltb-false 63 (c .before .before .before .before .args .number) (p .0), p .1)
-
-code-pages-requires : tie.Need-code-pages-requires
-code-pages-requires c κs = omega (arith, asked c .0)
-
-bit-answer-requires : tie.Need-bit-answer-requires
-bit-answer-requires c κs =
-    let n = c .before .before .before .before .before .args .number / 32 in
-    let few = asked (c .before) .0 in
-    let came = page-since n (omega arith) in
-    record {
-      opened = asked (c .before) .1;
-      lies = λ h g. rw (c .code-pages .ensures) (open-lies _ _ (asked (c .before) .1) (39 + n) (omega arith) (le-trans came h) (le-trans came g));
-      low = omega arith;
-    }
+code-page-answer-requires : tie.Need-code-page-answer-requires
+code-page-answer-requires c κs =
+    asked-parts _ _ _ (sym (ap saidOpening (c .before .known .given .1)) ∙ c .before .before .before .opened .ensures)
 
 returns : tie.Need-returns
-returns c = asked-opened _ _ (CodePageBit (c .before .before .before .before .before .args .number)) (sym (ap saidCheck (c .before .why .given .1)) ∙ c .before .before .before .opened .ensures)
+returns c = asked-refused _ _ _ (sym (ap saidOpening (c .before .why .given .1)) ∙ c .before .before .before .opened .ensures)
 
 returns-2 : tie.Need-returns-2
-unfolding since onWhole valueOf
-returns-2 c = ap answered ((rw (c .before .code-pages .ensures) at (c .bit-answer .ensures)) ∙ sym (given-part _ _ (CodePageBit (c .before .before .before .before .before .before .args .number)) refl)) ∙ asked-opened _ _ (CodePageBit (c .before .before .before .before .before .before .args .number)) (sym (ap saidCheck (c .before .before .enum-told .given .1)) ∙ c .before .before .before .before .opened .ensures)
+returns-2 c =
+    let arm = c .before .before in
+    asked-answered _ _ _ (sym (ap saidOpening (arm .known .given .1)) ∙ arm .before .before .opened .ensures) (c .code-page-answer .ensures)
 
 pub code-page-bit-spec : {M : Type 1} → statement M
 code-page-bit-spec =
     tie.close
-    (tie.spec
-    opened-requires
-    enum-known-why
-    enum-told
-    code-pages-requires
-    bit-answer-requires
-    returns
-    returns-2)
+    (tie.spec (λ c κs. search needs) (λ c. search needs) (λ c. search needs) code-page-answer-requires returns returns-2)

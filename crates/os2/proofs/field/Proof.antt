@@ -2,38 +2,30 @@
 -- Assumes nothing.
 use mathlib.Core.Path.{sym, ap, _∙_}
 use native.Mathlib.Omega.{arith}
-use borrow.Author.Tests.{ltb-false}
-use Rattle.os2.specs.declared.Question.the-variants.{Field}
-use Rattle.os2.specs.Outcomes.{answered}
-use Rattle.os2.specs.Replies.{saidCheck}
-use Rattle.os2.specs.Questions.{outOfRange}
-use Rattle.os2.proofs.Asked.{opened-parts, asked-opened}
+use Rattle.outcomes.specs.Outcomes.{bare}
+use Rattle.os2_answers.specs.Questions.{ownRefusal}
+use Rattle.os2_answers.proofs.Settling.{under}
+use Rattle.os2.specs.Replies.{saidOpening}
+use Rattle.os2.proofs.Asked.{asked-refused, asked-parts, asked-answered}
 use borrow.Author.Needs.{needs}
 use Rattle.os2.proofs.field.Statement.{statement}
 use Rattle.os2.proofs.field.Tie as tie
 
-opened-requires : tie.Need-opened-requires
-opened-requires c κs = search needs
-
-enum-known-why : tie.Need-enum-known-why
-enum-known-why c = search needs
-
-enum-told : tie.Need-enum-told
-enum-told c = search needs
-
 field-answer-requires : tie.Need-field-answer-requires
-unfolding outOfRange
+unfolding ownRefusal
 field-answer-requires c κs =
-    let p = opened-parts _ _ (Field (c .before .before .before .before .args .number)) (sym (ap saidCheck (c .enum-told .given .1)) ∙ c .before .before .opened .ensures) in
-    (omega (arith, ltb-false 47 (c .before .before .before .before .args .number) (p .0)), p .1)
+    let p = asked-parts _ _ _ (sym (ap saidOpening (c .before .known .given .1)) ∙ c .before .before .before .opened .ensures) in
+    (omega (arith, under 47 (c .before .before .before .before .before .args .number) (bare 6) .0 (p .in-range)), p .opened)
 
 returns : tie.Need-returns
-returns c = asked-opened _ _ (Field (c .before .before .before .before .before .args .number)) (sym (ap saidCheck (c .before .why .given .1)) ∙ c .before .before .before .opened .ensures)
+returns c = asked-refused _ _ _ (sym (ap saidOpening (c .before .why .given .1)) ∙ c .before .before .before .opened .ensures)
 
 returns-2 : tie.Need-returns-2
-returns-2 c = ap answered (c .field-answer .ensures) ∙ asked-opened _ _ (Field (c .before .before .before .before .before .args .number)) (sym (ap saidCheck (c .before .enum-told .given .1)) ∙ c .before .before .before .opened .ensures)
+returns-2 c =
+    let arm = c .before .before in
+    asked-answered _ _ _ (sym (ap saidOpening (arm .known .given .1)) ∙ arm .before .before .opened .ensures) (c .field-answer .ensures)
 
 pub field-spec : {M : Type 1} → statement M
 field-spec =
     tie.close
-    (tie.spec opened-requires enum-known-why enum-told field-answer-requires returns returns-2)
+    (tie.spec (λ c κs. search needs) (λ c. search needs) (λ c. search needs) field-answer-requires returns returns-2)

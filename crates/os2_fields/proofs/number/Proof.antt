@@ -7,23 +7,8 @@ use borrow.Author.Needs.{needs}
 use Rattle.os2_fields.proofs.number.Statement.{statement}
 use Rattle.os2_fields.proofs.number.Tie as tie
 
-cast-at : tie.Need-cast-at
-cast-at c = search needs
-
-shared-slice-read-byte : tie.Need-shared-slice-read-byte
-shared-slice-read-byte c = search needs
-
-byte-requires : tie.Need-byte-requires
-byte-requires c κs = search needs
-
 returns : tie.Need-returns
 returns c = c .byte .ensures ∙ sym (raw-byte _ _ (c .before .before .if1 .taken))
-
-read-u16-requires : tie.Need-read-u16-requires
-read-u16-requires c κs = search needs
-
-cast-result : tie.Need-cast-result
-cast-result c = search needs
 
 returns-2 : tie.Need-returns-2
 returns-2 c = c .read-u16 .ensures ∙ sym (raw-word _ _ (c .before .if2 .taken))
@@ -37,13 +22,5 @@ returns-3 c = c .read-u32 .ensures ∙ sym (raw-long _ _ (four (c .before .befor
 pub number-spec : {M : Type 1} → statement M
 number-spec =
     tie.close
-    (tie.spec
-    cast-at
-    shared-slice-read-byte
-    byte-requires
-    returns
-    read-u16-requires
-    cast-result
-    returns-2
-    read-u32-requires
-    returns-3)
+    (tie.spec (λ c. search needs) (λ c. search needs) (λ c κs. search needs) returns (λ c κs. search needs) (λ c. search needs) returns-2
+    read-u32-requires returns-3)

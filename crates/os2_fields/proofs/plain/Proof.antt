@@ -6,11 +6,8 @@ use borrow.Author.Needs.{needs}
 use Rattle.os2_fields.proofs.plain.Statement.{statement}
 use Rattle.os2_fields.proofs.plain.Tie as tie
 
-cast-result : tie.Need-cast-result
-cast-result c = search needs
-
 returns : tie.Need-returns
 returns c = toZ-small _ (omega arith)
 
 pub plain-spec : {M : Type 1} → statement M
-plain-spec = tie.close (tie.spec cast-result returns)
+plain-spec = tie.close (tie.spec (λ c. search needs) returns)

@@ -9,15 +9,9 @@ use borrow.Author.Needs.{needs}
 use Rattle.os2_fields.proofs.signed.Statement.{statement}
 use Rattle.os2_fields.proofs.signed.Tie as tie
 
-cast-result : tie.Need-cast-result
-cast-result c = search needs
-
 returns : tie.Need-returns
 unfolding signedOf
 returns c = rw (lt-ltb (c .before .args .x) 32768 (omega arith)) (toZ-small _ (omega arith))
-
-cast-result-2 : tie.Need-cast-result-2
-cast-result-2 c = search needs
 
 sub-result : tie.Need-sub-result
 sub-result c = rw (toZ-small (c .before .args .x) (omega arith)) (less-fits (c .before .args .x) (omega arith))
@@ -27,4 +21,4 @@ unfolding signedOf
 returns-2 c = rw (le-ltb (c .before .args .x) 32768 (omega arith)) (rw (toZ-small (c .before .args .x) (omega arith)) (toZ-ofZ (less-fits (c .before .args .x) (omega arith))))
 
 pub signed-spec : {M : Type 1} → statement M
-signed-spec = tie.close (tie.spec cast-result returns cast-result-2 sub-result returns-2)
+signed-spec = tie.close (tie.spec (λ c. search needs) returns (λ c. search needs) sub-result returns-2)

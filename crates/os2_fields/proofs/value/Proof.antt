@@ -10,23 +10,14 @@ use borrow.Author.Needs.{needs}
 use Rattle.os2_fields.proofs.value.Statement.{statement}
 use Rattle.os2_fields.proofs.value.Tie as tie
 
-cast-at : tie.Need-cast-at
-cast-at c = search needs
-
 read-u16-requires : tie.Need-read-u16-requires
 read-u16-requires c κs = omega (arith, c .before .before .before .pre .sound .signs (c .if1 .taken))
 
-signed-requires : tie.Need-signed-requires
-signed-requires c κs = search needs
-
 returns : tie.Need-returns
-returns c = toZ-ofZ (search needs) ∙ (c .signed .ensures ∙ (ap (signedOf 2) (c .before .read-u16 .ensures) ∙ sym (value-signed _ _ (c .before .before .if1 .taken) (c .before .before .before .before .before .pre .sound .signs (c .before .before .if1 .taken)))))
-
-number-requires : tie.Need-number-requires
-number-requires c κs = search needs
-
-plain-requires : tie.Need-plain-requires
-plain-requires c κs = search needs
+returns c =
+    let signed = c .before .before .if1 .taken in
+    let two = c .before .before .before .before .before .pre .sound .signs signed in
+    toZ-ofZ (search needs) ∙ (c .signed .ensures ∙ (ap (signedOf 2) (c .before .read-u16 .ensures) ∙ sym (value-signed _ _ signed two)))
 
 returns-2 : tie.Need-returns-2
 returns-2 c = toZ-ofZ (search needs) ∙ (c .plain .ensures ∙ (ap pos (c .before .number .ensures) ∙ sym (value-plain _ _ (c .before .before .if1 .left))))
@@ -34,11 +25,4 @@ returns-2 c = toZ-ofZ (search needs) ∙ (c .plain .ensures ∙ (ap pos (c .befo
 pub value-spec : {M : Type 1} → statement M
 value-spec =
     tie.close
-    (tie.spec
-    cast-at
-    read-u16-requires
-    signed-requires
-    returns
-    number-requires
-    plain-requires
-    returns-2)
+    (tie.spec (λ c. search needs) read-u16-requires (λ c κs. search needs) returns (λ c κs. search needs) (λ c κs. search needs) returns-2)

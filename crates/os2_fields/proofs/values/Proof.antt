@@ -33,25 +33,28 @@ word-requires-4 c κs = word _ 31 (fields.version (c .before .before .before .be
 
 optical-size-requires : tie.Need-optical-size-requires
 unfolding fieldOf catalogue tableSize
-optical-size-requires c κs = record { sized = c .before .before .before .before .before .before .pre; inside = omega arith; two = refl }
+optical-size-requires c κs = record { came = refl; sized = c .before .before .before .before .before .before .pre; inside = omega arith; two = refl }
 
 optical-size-requires-2 : tie.Need-optical-size-requires-2
 unfolding fieldOf catalogue tableSize
-optical-size-requires-2 c κs = record { sized = c .before .before .before .before .before .before .before .pre; inside = omega arith; two = refl }
+optical-size-requires-2 c κs = record { came = refl; sized = c .before .before .before .before .before .before .before .pre; inside = omega arith; two = refl }
 
 returns : tie.Need-returns
 unfolding valuesOf fieldOf catalogue
-returns c = rw (c .optical-size2 .ensures, c .before .optical-size .ensures, c .before .before .word4 .ensures, c .before .before .before .word3 .ensures, c .before .before .before .before .word2 .ensures, c .before .before .before .before .before .word .ensures, c .before .before .before .before .before .before .version .ensures)
+returns c =
+    let words = c .before .before in
+    let first = words .before .before .before in
+    rw (
+      c .optical-size2 .ensures,
+      c .before .optical-size .ensures,
+      words .word4 .ensures,
+      words .before .word3 .ensures,
+      words .before .before .word2 .ensures,
+      first .word .ensures,
+      first .before .version .ensures,
+    )
 
 pub values-spec : {M : Type 1} → statement M
 values-spec =
     tie.close
-    (tie.spec
-    version-requires
-    word-requires
-    word-requires-2
-    word-requires-3
-    word-requires-4
-    optical-size-requires
-    optical-size-requires-2
-    returns)
+    (tie.spec version-requires word-requires word-requires-2 word-requires-3 word-requires-4 optical-size-requires optical-size-requires-2 returns)

@@ -30,11 +30,11 @@ returns : tie.Need-returns
 returns c = rw (less c .1, kept _ (less-fits c)) (let h = less c .0 in omega arith)
 
 cast-result-2 : tie.Need-cast-result-2
-cast-result-2 c = rw (kept _ (c .before .fits .x)) (from-zero _ (c .before .fits .x) (rw (kept _ (c .before .fits .x)) at (c .if1 .left)), record { fits = let d = distance _ (c .before .fits .x) in omega arith })
-
-returns-2 : tie.Need-returns-2
-returns-2 c = search needs
+cast-result-2 c =
+    let same = kept _ (c .before .fits .x) in
+    let d = distance _ (c .before .fits .x) in
+    rw same (from-zero _ (c .before .fits .x) (rw same at (c .if1 .left)), record { fits = omega arith })
 
 pub magnitude-spec : {M : Type 1} → statement M
 magnitude-spec =
-    tie.close (tie.spec sub-result cast-result add-result returns cast-result-2 returns-2)
+    tie.close (tie.spec sub-result cast-result add-result returns cast-result-2 (λ c. search needs))

@@ -3,22 +3,10 @@
 use mathlib.Core.Path.{refl}
 use native.Mathlib.Omega.{arith}
 use Rattle.os2_figures.specs.Figures.{figure}
-use Rattle.os2_figures.proofs.Laws.{put-as, put-both}
+use Rattle.lines.proofs.Pieces.{put-as, put-both}
 use borrow.Author.Needs.{needs}
 use Rattle.os2_figures.proofs.put_figure.Statement.{statement}
 use Rattle.os2_figures.proofs.put_figure.Tie as tie
-
-slice-aggregate-put-numbered : tie.Need-slice-aggregate-put-numbered
-slice-aggregate-put-numbered c = search needs
-
-put-numbered-requires : tie.Need-put-numbered-requires
-put-numbered-requires c κs = search needs
-
-put-fraction-requires : tie.Need-put-fraction-requires
-put-fraction-requires c κs = search needs
-
-same-length : tie.Need-same-length
-same-length c = search needs
 
 returns : tie.Need-returns
 unfolding figure
@@ -28,8 +16,8 @@ pub put-figure-spec : {M : Type 1} → statement M
 put-figure-spec =
     tie.close
     (tie.spec
-    slice-aggregate-put-numbered
-    put-numbered-requires
-    put-fraction-requires
-    same-length
+    (λ c. search needs)
+    (λ c κs. search needs)
+    (λ c κs. search needs)
+    (λ c. search needs)
     returns)

@@ -1,64 +1,71 @@
--- The question of a line is the one that the tests before it pick.
+-- Each arm is the case that `case_of` finds for the line's question.
 -- Assumes nothing.
-use borrow.Author.Tests.{lt-ltb, le-ltb, eq-eqb, ne-eqb}
-use Rattle.os2_lines.specs.Listings.{questionOf}
+use mathlib.Core.Path.{_≡_, sym, ap, _∙_}
+use native.Mathlib.Omega.{arith}
+use Rattle.level.specs.Levels.{numberOf}
+use Rattle.os2_fields.specs.Fields.{version}
+use Rattle.os2_acceptance.proofs.Accepting.{open-two}
+use Rattle.os2_answers.specs.Questions.{since, onWhole}
+use Rattle.os2_answers.specs.Asking.{caseOf}
+use Rattle.os2_answers.proofs.Cases.{given-case}
+use Rattle.lines.proofs.Pieces.{put-as}
+use Rattle.os2_lines.specs.Listings.{answerText, questionOf}
+use Rattle.os2_lines.proofs.Laws.{on-whole}
 use borrow.Author.Needs.{needs}
 use Rattle.os2_lines.proofs.put_answer.Statement.{statement}
 use Rattle.os2_lines.proofs.put_answer.Tie as tie
 
-put-field-requires : tie.Need-put-field-requires
-put-field-requires c κs = search needs
+-- the case that is found
+found : (c : tie.After-case-of) →
+    let args = c .before .before .before .before .before .args in
+    c .case-of .result ≡ caseOf (since (questionOf (args .k))) (onWhole (questionOf (args .k))) (numberOf (args .known)) (version (args .table .now))
+found c = rw (c .before .since .ensures, on-whole _, c .before .before .version-of .ensures) at (c .case-of .ensures)
 
-same-length : tie.Need-same-length
-same-length c = search needs
+version-of-requires : tie.Need-version-of-requires
+version-of-requires c κs = open-two _ _ (c .before .before .pre .1)
+
+put-value-requires : tie.Need-put-value-requires
+put-value-requires c κs =
+    let told = c .before in
+    let start = told .before .before .before .before .before .before .before in
+    (omega arith, record { level = _; accepted = start .pre .1; case = sym (found (told .before .before)) ∙ told .enum-told3 .given .1 })
 
 returns : tie.Need-returns
-unfolding questionOf
-returns c = rw (lt-ltb _ _ (c .before .before .before .before .if1 .taken)) (c .before .before .put-field .ensures)
-
-put-rights-requires : tie.Need-put-rights-requires
-put-rights-requires c κs = search needs
-
-same-length-2 : tie.Need-same-length-2
-same-length-2 c = search needs
+returns c =
+    let told = c .before .before .before .before .before in
+    put-as (c .before .before .put .ensures) (omega arith)
+    (ap (answerText _) (given-case _ _ _ (sym (told .enum-told .given .1) ∙ found (told .before .before))))
 
 returns-2 : tie.Need-returns-2
-unfolding questionOf
-returns-2 c = rw (le-ltb _ _ (c .before .before .before .before .before .if1 .left), eq-eqb _ _ (c .before .before .before .before .if2 .taken)) (c .before .before .put-rights .ensures)
-
-put-style-requires : tie.Need-put-style-requires
-put-style-requires c κs = search needs
-
-same-length-3 : tie.Need-same-length-3
-same-length-3 c = search needs
+returns-2 c =
+    let told = c .before .before .before .before .before in
+    put-as (c .before .before .put2 .ensures) (omega arith)
+    (ap (answerText _) (given-case _ _ _ (sym (told .enum-told2 .given .1) ∙ found (told .before .before))))
 
 returns-3 : tie.Need-returns-3
-unfolding questionOf
-returns-3 c = rw (le-ltb _ _ (c .before .before .before .before .before .before .if1 .left), ne-eqb _ _ (c .before .before .before .before .before .if2 .left), eq-eqb _ _ (c .before .before .before .before .if3 .taken)) (c .before .before .put-style .ensures)
-
-put-sizes-requires : tie.Need-put-sizes-requires
-put-sizes-requires c κs = search needs
-
-same-length-4 : tie.Need-same-length-4
-same-length-4 c = search needs
-
-returns-4 : tie.Need-returns-4
-unfolding questionOf
-returns-4 c = rw (le-ltb _ _ (c .before .before .before .before .before .before .if1 .left), ne-eqb _ _ (c .before .before .before .before .before .if2 .left), ne-eqb _ _ (c .before .before .before .before .if3 .left)) (c .before .before .put-sizes .ensures)
+returns-3 c =
+    let told = c .before .before .before .before in
+    put-as (c .before .before .put-value .ensures) (omega arith)
+    (ap (answerText _) (given-case _ _ _ (sym (told .enum-told3 .given .1) ∙ found (told .before .before))))
 
 pub put-answer-spec : {M : Type 1} → statement M
 put-answer-spec =
     tie.close
     (tie.spec
-    put-field-requires
-    same-length
+    version-of-requires
+    (λ c κs. search needs)
+    (λ c κs. search needs)
+    (λ c. search needs)
+    (λ c. search needs)
+    (λ c κs. search needs)
+    (λ c. search needs)
+    (λ c. search needs)
+    (λ c κs. search needs)
+    (λ c. search needs)
+    put-value-requires
+    (λ c. search needs)
     returns
-    put-rights-requires
-    same-length-2
+    (λ c. search needs)
     returns-2
-    put-style-requires
-    same-length-3
-    returns-3
-    put-sizes-requires
-    same-length-4
-    returns-4)
+    (λ c. search needs)
+    returns-3)

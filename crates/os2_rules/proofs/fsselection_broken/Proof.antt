@@ -5,20 +5,11 @@ use Rattle.os2_rules.proofs.Laws.{plain-selection}
 use Rattle.os2_rules.proofs.fsselection_broken.Statement.{statement}
 use Rattle.os2_rules.proofs.fsselection_broken.Tie as tie
 
-regular-broken-requires : tie.Need-regular-broken-requires
-regular-broken-requires c κs = search needs
-
 returns : tie.Need-returns
 returns c = rw (plain-selection _ _ (c .before .if1 .taken)) (c .regular-broken .ensures)
 
-selection-broken-requires : tie.Need-selection-broken-requires
-selection-broken-requires c κs = search needs
-
 returns-2 : tie.Need-returns-2
 returns-2 c = simp (← c .before .selection-broken .ensures, c .if2 .taken)
-
-regular-broken-requires-2 : tie.Need-regular-broken-requires-2
-regular-broken-requires-2 c κs = search needs
 
 returns-3 : tie.Need-returns-3
 returns-3 c = simp (← c .before .before .selection-broken .ensures, c .before .if2 .left) (c .regular-broken2 .ensures)
@@ -26,10 +17,4 @@ returns-3 c = simp (← c .before .before .selection-broken .ensures, c .before 
 pub fsselection-broken-spec : {M : Type 1} → statement M
 fsselection-broken-spec =
     tie.close
-    (tie.spec
-    regular-broken-requires
-    returns
-    selection-broken-requires
-    returns-2
-    regular-broken-requires-2
-    returns-3)
+    (tie.spec (λ c κs. search needs) returns (λ c κs. search needs) returns-2 (λ c κs. search needs) returns-3)

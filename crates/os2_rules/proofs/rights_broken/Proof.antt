@@ -7,15 +7,9 @@ use borrow.Author.Needs.{needs}
 use Rattle.os2_rules.proofs.rights_broken.Statement.{statement}
 use Rattle.os2_rules.proofs.rights_broken.Tie as tie
 
-add-result : tie.Need-add-result
-add-result c = search needs
-
-add-result-2 : tie.Need-add-result-2
-add-result-2 c = search needs
-
 returns : tie.Need-returns
 unfolding rightsBroken bit
 returns c = search decided
 
 pub rights-broken-spec : {M : Type 1} → statement M
-rights-broken-spec = tie.close (tie.spec add-result add-result-2 returns)
+rights-broken-spec = tie.close (tie.spec (λ c. search needs) (λ c. search needs) returns)

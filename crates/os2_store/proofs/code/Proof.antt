@@ -2,7 +2,7 @@
 -- Assumes nothing.
 use mathlib.Core.Path.{_≡_, ap, _∙_}
 use lib.IntN.{pos, _+ℤ_, natAbs}
-use Rattle.os2.specs.Writing.{codeOf}
+use Rattle.os2_store.specs.Writing.{codeOf}
 use Rattle.os2_store.proofs.Signs.{kept, small-fits, code-32, code-negative, code-positive}
 use Rattle.os2_store.proofs.code.Statement.{statement}
 use Rattle.os2_store.proofs.code.Tie as tie
@@ -17,7 +17,9 @@ add-result : tie.Need-add-result
 add-result c = rw (kept _ (c .before .fits .x), negative c) (small-fits _ (code-32 _ (c .before .pre .0) _ (c .before .pre .1)))
 
 cast-result : tie.Need-cast-result
-cast-result c = rw (kept _ (c .before .fits .x), negative c, kept _ (small-fits _ (code-32 _ (c .before .pre .0) _ (c .before .pre .1)))) (tt, record { fits = code-32 _ (c .before .pre .0) _ (c .before .pre .1) })
+cast-result c =
+    rw (kept _ (c .before .fits .x), negative c, kept _ (small-fits _ (code-32 _ (c .before .pre .0) _ (c .before .pre .1))))
+    (tt, record { fits = code-32 _ (c .before .pre .0) _ (c .before .pre .1) })
 
 returns : tie.Need-returns
 returns c = rw (kept _ (c .before .fits .x), negative c, kept _ (small-fits _ (code-32 _ (c .before .pre .0) _ (c .before .pre .1))))

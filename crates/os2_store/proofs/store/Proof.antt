@@ -1,14 +1,14 @@
 -- The invariant: the room holds the fields below k. A version that lacks a field lacks the later ones, so the loop may stop there.
 -- Assumes nothing.
 use Rattle.bigendian.specs.Numbers.{stored}
-use Rattle.os2.specs.Writing.{numberFor, codeFor, image}
+use Rattle.os2_store.specs.Writing.{numberFor, codeFor, image}
 use lib.ListN.{length}
 use mir.Syntax.{w64}
 use mir.Val.{SFits}
-use Rattle.os2_fields.specs.Catalogue.{fieldOf}
+use Rattle.os2_fields.specs.Catalogue.{fieldCount, fieldOf}
 use borrow.Author.Needs.{needs}
 use native.Mathlib.Numerals.{add-one}
-use Rattle.os2.proofs.Images.{image-has, image-length}
+use Rattle.os2_store.proofs.Images.{image-has, image-length}
 use Rattle.os2_store.proofs.Signs.{kept}
 use Rattle.os2_fields.proofs.Tiling.{sound-is}
 use Rattle.os2_store.proofs.Steps.{entry-is, fit-at, storable, image-stop}
@@ -19,10 +19,10 @@ use Rattle.os2_store.proofs.store.Statement.{statement}
 use Rattle.os2_store.proofs.store.Tie as tie
 
 abbrev Inv-loop : tie.InvT-loop
-Inv-loop numbers version room₀ fields k₀ room k = (k ≤ 48) × (length room ≡ length room₀) × (room ≡ image version numbers room₀ k)
+Inv-loop numbers version room₀ fields k₀ room k = (k ≤ fieldCount) × (length room ≡ length room₀) × (room ≡ image version numbers room₀ k)
 
 abbrev μ-loop : tie.MeasureT-loop
-μ-loop numbers version room₀ fields k₀ room k = 48 - k
+μ-loop numbers version room₀ fields k₀ room k = fieldCount - k
 
 -- the version has the field
 here : (c : tie.Else1 Inv-loop μ-loop) → fieldOf (c .before .before .before .before .loop .k) .since ≤ c .before .before .before .before .before .before .before .args .version
@@ -43,42 +43,33 @@ stores c =
     rw (c .before .before .before .code .ensures, kept _ g, entry-is _ (l .k) (e .before .before .before .before .before .entries .ensures)) at (c .before .before .put .ensures) in
     p ∙ rw (image-has _ _ (s .args .room .now) (l .k) (here e), l .inv .2)
 
-entries-requires : tie.Need-entries-requires Inv-loop μ-loop
-entries-requires c κs = search needs
-
 loop-holds : tie.Need-loop-holds Inv-loop μ-loop
 unfolding image
 loop-holds c = (omega arith, refl, refl)
 
-mul-f : tie.Need-mul-f Inv-loop μ-loop
-mul-f c = search needs
-
-array-copy-out-f : tie.Need-array-copy-out-f Inv-loop μ-loop
-array-copy-out-f c = search needs
-
-cast-came : tie.Need-cast-came Inv-loop μ-loop
-cast-came c = search needs
-
-same-length : tie.Need-same-length Inv-loop μ-loop
-same-length c = search needs
-
 returns : tie.Need-returns Inv-loop μ-loop
-returns c = c .before .before .before .before .loop .inv .2 ∙ sym (image-stop _ _ _ (c .before .before .before .before .loop .k) 48 (c .before .before .before .before .loop .inv .0) (omega arith) (rw (entry-is _ (c .before .before .before .before .loop .k) (c .before .before .before .before .before .entries .ensures)) at (c .if1 .taken)))
-
-mul-code : tie.Need-mul-code Inv-loop μ-loop
-mul-code c = search needs
-
-shared-slice-copy-out-code : tie.Need-shared-slice-copy-out-code Inv-loop μ-loop
-shared-slice-copy-out-code c = search needs
+returns c =
+    let l = c .before .before .before .before .loop in
+    let lacks = rw (entry-is _ (l .k) (c .before .before .before .before .before .entries .ensures)) at (c .if1 .taken) in
+    l .inv .2 ∙ sym (image-stop _ _ _ (l .k) fieldCount (l .inv .0) (omega arith) lacks)
 
 code-requires : tie.Need-code-requires Inv-loop μ-loop
-code-requires c κs = let e = c .before .before in let g : SFits w64 (numberFor (e .before .before .before .before .before .before .before .args .numbers .now) (e .before .before .before .before .loop .k)) = record { sfits = c .code-arg .given } in rw (kept _ g, entry-is _ (e .before .before .before .before .loop .k) (e .before .before .before .before .before .entries .ensures)) (sound-is _ (omega arith), fit-at _ _ (e .before .before .before .before .before .before .before .pre .fit) _ (omega arith) (here e))
+code-requires c κs =
+    let e = c .before .before in
+    let g : SFits w64
+    (numberFor (e .before .before .before .before .before .before .before .args .numbers .now) (e .before .before .before .before .loop .k)) = record { sfits = c .code-arg .given } in
+    rw (kept _ g, entry-is _ (e .before .before .before .before .loop .k) (e .before .before .before .before .before .entries .ensures))
+    (sound-is _ (omega arith), fit-at _ _ (e .before .before .before .before .before .before .before .pre .fit) _ (omega arith) (here e))
 
 put-requires : tie.Need-put-requires Inv-loop μ-loop
-put-requires c κs = let e = c .before .before .before in let k : ℕ = e .before .before .before .before .loop .k in let s = e .before .before .before .before .before .before .before in let l = e .before .before .before .before .loop in let g : SFits w64 (numberFor (s .args .numbers .now) k) = record { sfits = c .before .code-arg .given } in rw (c .code .ensures, kept _ g, entry-is _ k (e .before .before .before .before .before .entries .ensures)) (storable _ _ (s .pre .fit) (l .room) (rw (l .inv .1) (s .pre .long)) k (omega arith) (here e))
-
-add-k : tie.Need-add-k Inv-loop μ-loop
-add-k c = search needs
+put-requires c κs =
+    let e = c .before .before .before in
+    let k : ℕ = e .before .before .before .before .loop .k in
+    let s = e .before .before .before .before .before .before .before in
+    let l = e .before .before .before .before .loop in
+    let g : SFits w64 (numberFor (s .args .numbers .now) k) = record { sfits = c .before .code-arg .given } in
+    rw (c .code .ensures, kept _ g, entry-is _ k (e .before .before .before .before .before .entries .ensures))
+    (storable _ _ (s .pre .fit) (l .room) (rw (l .inv .1) (s .pre .long)) k (omega arith) (here e))
 
 loop-less : tie.Need-loop-less Inv-loop μ-loop
 loop-less c = omega arith
@@ -86,11 +77,8 @@ loop-less c = omega arith
 loop-again : tie.Need-loop-again Inv-loop μ-loop
 loop-again c = (omega arith, rw (stores c) (image-length _ _ _ _), rw add-one (stores c))
 
-same-length-2 : tie.Need-same-length-2 Inv-loop μ-loop
-same-length-2 c = search needs
-
 returns-2 : tie.Need-returns-2 Inv-loop μ-loop
-returns-2 c = let e : c .before .loop .k ≡ 48 = omega arith in rw e at (c .before .loop .inv .2)
+returns-2 c = let e : c .before .loop .k ≡ fieldCount = omega arith in rw e at (c .before .loop .inv .2)
 
 pub store-spec : {M : Type 1} → statement M
 store-spec =
@@ -98,19 +86,19 @@ store-spec =
     (tie.spec
     Inv-loop
     μ-loop
-    entries-requires
+    (λ c κs. search needs)
     loop-holds
-    mul-f
-    array-copy-out-f
-    cast-came
-    same-length
+    (λ c. search needs)
+    (λ c. search needs)
+    (λ c. search needs)
+    (λ c. search needs)
     returns
-    mul-code
-    shared-slice-copy-out-code
+    (λ c. search needs)
+    (λ c. search needs)
     code-requires
     put-requires
-    add-k
+    (λ c. search needs)
     loop-less
     loop-again
-    same-length-2
+    (λ c. search needs)
     returns-2)

@@ -7,12 +7,9 @@ use borrow.Author.Needs.{needs}
 use Rattle.os2_style.proofs.in_points.Statement.{statement}
 use Rattle.os2_style.proofs.in_points.Tie as tie
 
-int-to-float-result : tie.Need-int-to-float-result
-int-to-float-result c = search needs
-
 returns : tie.Need-returns
 unfolding points ofBits ofInt
 returns c = refl
 
 pub in-points-spec : {M : Type 1} → statement M
-in-points-spec = tie.close (tie.spec int-to-float-result returns)
+in-points-spec = tie.close (tie.spec (λ c. search needs) returns)

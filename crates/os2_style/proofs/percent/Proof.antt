@@ -6,21 +6,11 @@ use borrow.Author.Needs.{needs}
 use Rattle.os2_style.proofs.percent.Statement.{statement}
 use Rattle.os2_style.proofs.percent.Tie as tie
 
-sub-i : tie.Need-sub-i
-sub-i c = search needs
-
-cast-i : tie.Need-cast-i
-cast-i c = search needs
-
-mul-result : tie.Need-mul-result
-mul-result c = search needs
-
-array-read-result : tie.Need-array-read-result
-array-read-result c = search needs
-
 returns : tie.Need-returns
 unfolding percentOf
 returns c = refl
 
 pub percent-spec : {M : Type 1} → statement M
-percent-spec = tie.close (tie.spec sub-i cast-i mul-result array-read-result returns)
+percent-spec =
+    tie.close
+    (tie.spec (λ c. search needs) (λ c. search needs) (λ c. search needs) (λ c. search needs) returns)

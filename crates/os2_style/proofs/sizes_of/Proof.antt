@@ -10,18 +10,9 @@ returns : tie.Need-returns
 unfolding sizesOf
 returns c = simp (eq-eqb _ _ (c .before .if1 .taken), eq-eqb _ _ (c .if2 .taken))
 
-in-points-requires : tie.Need-in-points-requires
-in-points-requires c κs = search needs
-
 returns-2 : tie.Need-returns-2
 unfolding sizesOf
 returns-2 c = simp (eq-eqb _ _ (c .before .before .if1 .taken), ne-eqb _ _ (c .before .if2 .left), c .in-points .ensures)
-
-in-points-requires-2 : tie.Need-in-points-requires-2
-in-points-requires-2 c κs = search needs
-
-in-points-requires-3 : tie.Need-in-points-requires-3
-in-points-requires-3 c κs = search needs
 
 returns-3 : tie.Need-returns-3
 unfolding sizesOf
@@ -30,10 +21,4 @@ returns-3 c = simp (ne-eqb _ _ (c .before .before .if1 .left), c .before .in-poi
 pub sizes-of-spec : {M : Type 1} → statement M
 sizes-of-spec =
     tie.close
-    (tie.spec
-    returns
-    in-points-requires
-    returns-2
-    in-points-requires-2
-    in-points-requires-3
-    returns-3)
+    (tie.spec returns (λ c κs. search needs) returns-2 (λ c κs. search needs) (λ c κs. search needs) returns-3)

@@ -6,8 +6,8 @@ use mathlib.Core.Path.{_≡_, ap, _∙_}
 use lib.IntN.{pos, natAbs}
 use mir.Syntax.{w64}
 use mir.Val.{SFits, toZ, ofZ}
-use Rattle.os2.specs.Writing.{numberFor, codeFor}
-use Rattle.os2.proofs.Codes.{code-plain}
+use Rattle.os2_store.specs.Writing.{numberFor, codeFor}
+use Rattle.os2_store.proofs.Codes.{code-plain}
 use borrow.Author.Needs.{needs}
 use Rattle.os2_writer.proofs.word.Statement.{statement}
 use Rattle.os2_writer.proofs.word.Tie as tie
@@ -17,12 +17,6 @@ number c =
     let g : SFits w64 (numberFor (c .before .args .numbers .now) (c .before .args .k)) = record { sfits = c .result .given } in
     kept _ g ∙ code-plain _ _ (c .before .pre .plain) (c .before .pre .fit)
 
-mul-result : tie.Need-mul-result
-mul-result c = search needs
-
-shared-slice-copy-out-result : tie.Need-shared-slice-copy-out-result
-shared-slice-copy-out-result c = search needs
-
 cast-result : tie.Need-cast-result
 cast-result c = rw (number c) (tt, record { fits = word-small _ _ (c .before .pre .two) (c .before .pre .fit) })
 
@@ -30,4 +24,4 @@ returns : tie.Need-returns
 returns c = ap natAbs (number c)
 
 pub word-spec : {M : Type 1} → statement M
-word-spec = tie.close (tie.spec mul-result shared-slice-copy-out-result cast-result returns)
+word-spec = tie.close (tie.spec (λ c. search needs) (λ c. search needs) cast-result returns)

@@ -1,18 +1,23 @@
--- Each loop over a digit group keeps `Reading`, the loop over starts that no start before has yielded a number; a start left behind yields none by the test that failed, and the one found is the first.
+-- Each loop over a digit group keeps `Reading`, the loop over starts that no start before has yielded a number; a start left behind yields none by the
+-- test that failed, and the one found is the first.
 -- Assumes nothing.
 use Prim.Native.Nat.{ℕ, _+_, _≤_, _<_, _-_}
 use native.Mathlib.Omega.{arith}
-use mathlib.Core.Path.{_≡_, sym, _∙_}
+use mathlib.Core.Path.{_≡_, sym, ap, _∙_}
 use mathlib.Core.Bool.{true}
+use mathlib.Core.Option.{none, some}
 use mathlib.Core.List.{List}
 use lib.ListN.{length}
 use borrow.Author.Needs.{needs}
 use borrow.Author.Tests.{not-true, not-false}
+use Rattle.outcomes.specs.Firsts.{when, firstOf}
+use Rattle.outcomes.specs.Outcomes.{unless}
+use Rattle.outcomes.proofs.Laws.{first-none, first-more, first-stop}
+use Rattle.characters.specs.Digits.{digit}
 use Rattle.characters.specs.Strings.{characters, char}
-use Rattle.version_text.specs.Versions.{digit, numberAt, firstOf, versionIn}
-use Rattle.version_text.specs.declared.Version.the-variants.{Number, NoNumber}
+use Rattle.version_text.specs.Versions.{numberAt, foundOr25, versionIn}
 use Rattle.version_text.proofs.Groups.{digit-within, period-within, Reading, Read, reading-none, reading-more, reading-end}
-use Rattle.version_text.proofs.Starts.{no-start, no-period, no-second, first-large, second-large, yields, first-none, first-on, first-all, first-found}
+use Rattle.version_text.proofs.Starts.{no-start, no-period, no-second, first-large, second-large, yields}
 use Rattle.version_text.proofs.version_of.Statement.{statement}
 use Rattle.version_text.proofs.version_of.Tie as tie
 
@@ -29,7 +34,7 @@ abbrev μ-loop2 : tie.MeasureT-loop2
 μ-loop2 text wide count next start major end second minor₀ stop₀ minor stop = length (characters wide text) - stop
 
 abbrev Inv-starts : tie.InvT-starts
-Inv-starts text wide count next₀ next = (next ≤ count) × (firstOf (numberAt (characters wide text)) next ≡ NoNumber)
+Inv-starts text wide count next₀ next = (next ≤ count) × (firstOf (numberAt (characters wide text)) next ≡ none)
 
 abbrev μ-starts : tie.MeasureT-starts
 μ-starts text wide count next₀ next = count - next
@@ -86,23 +91,25 @@ abbrev start : Turn → ℕ
 start c = c .before .starts .next
 
 -- the length is not odd, so the starts are searched
-searched : (c : Even) → versionIn (c .before .before .before .args .wide) (c .before .before .before .args .text .now) ≡ firstOf (numberAt (string c)) (length (string c))
-unfolding versionIn
+searched : (c : Even) → versionIn (c .before .before .before .args .wide) (c .before .before .before .args .text .now)
+    ≡ foundOr25 (firstOf (numberAt (string c)) (length (string c)))
+unfolding versionIn when unless
 searched c = rw (← c .before .is-odd .ensures, c .if1 .left)
 
 -- a start within the string, and the next turn where it yields nothing
 within : (c : Turn) → start c < length (string (even-of c))
 within c = omega (arith, c .before .before .count .ensures)
 
-skip : (c : Turn) → numberAt (string (even-of c)) (start c) ≡ NoNumber
-    → (start c + 1 ≤ c .before .before .count .result) × (firstOf (numberAt (string (even-of c))) (start c + 1) ≡ NoNumber)
-skip c e = (omega arith, first-on _ _ (c .before .starts .inv .1) e)
+skip : (c : Turn) → numberAt (string (even-of c)) (start c) ≡ none
+    → (start c + 1 ≤ c .before .before .count .result) × (firstOf (numberAt (string (even-of c))) (start c + 1) ≡ none)
+skip c e = (omega arith, first-more _ _ (c .before .starts .inv .1) e)
 
 -- the first group: a digit of it, and what is read where it ends
 first-digit : (c : First-digit) → digit (char (string (even-of (turn-of (c .before .before)))) (c .before .before .loop .end)) ≡ true
 first-digit c = sym (c .before .digit-at .ensures) ∙ c .if4 .taken
 
-first-read : (c : First-end) → Read (string (even-of (turn-of (c .before .before)))) (start (turn-of (c .before .before))) (c .before .before .loop .end) (c .before .before .loop .major)
+first-read : (c : First-end)
+    → Read (string (even-of (turn-of (c .before .before)))) (start (turn-of (c .before .before))) (c .before .before .loop .end) (c .before .before .loop .major)
 first-read c = reading-end _ _ _ _ (sym (c .before .digit-at .ensures) ∙ c .if4 .left) (c .before .before .loop .inv)
 
 -- the period behind it
@@ -113,13 +120,14 @@ period-there c = sym (c .before .code2 .ensures) ∙ c .if5 .left
 second-digit : (c : Second-digit) → digit (char (string (even-of (turn-of (first-of (c .before .before))))) (c .before .before .loop2 .stop)) ≡ true
 second-digit c = sym (c .before .digit-at3 .ensures) ∙ not-false _ (c .if7 .left)
 
-second-read : (c : Second-end) → Read (string (even-of (turn-of (first-of (c .before .before))))) (first-of (c .before .before) .loop .end + 1) (c .before .before .loop2 .stop) (c .before .before .loop2 .minor)
+second-read : (c : Second-end)
+    → Read (string (even-of (turn-of (first-of (c .before .before))))) (first-of (c .before .before) .loop .end + 1) (c .before .before .loop2 .stop) (c .before .before .loop2 .minor)
 second-read c = reading-end _ _ _ _ (sym (c .before .digit-at3 .ensures) ∙ not-true _ (c .if7 .taken)) (c .before .before .loop2 .inv)
 
 -- both groups read and both figures small: the start yields the number
 found : (c : tie.Else9 Inv-loop μ-loop Inv-loop2 μ-loop2 Inv-starts μ-starts)
     → numberAt (string (even-of (turn-of (first-of (c .before .before .before .before))))) (start (turn-of (first-of (c .before .before .before .before))))
-    ≡ Number (first-of (c .before .before .before .before) .loop .major) (c .before .before .before .before .loop2 .minor)
+    ≡ some (record { major = first-of (c .before .before .before .before) .loop .major; minor = c .before .before .before .before .loop2 .minor })
 found c =
     let s : Second = c .before .before .before .before in
     yields _ _ _ _ (first-read (first-end-of (period-of s))) _ _ (second-read (c .before .before))
@@ -129,28 +137,12 @@ found c =
     (c .before .if8 .left)
     (c .if9 .left)
 
-is-odd-requires : tie.Need-is-odd-requires Inv-loop μ-loop Inv-loop2 μ-loop2 Inv-starts μ-starts
-is-odd-requires c κs = search needs
-
 returns : tie.Need-returns Inv-loop μ-loop Inv-loop2 μ-loop2 Inv-starts μ-starts
-unfolding versionIn
+unfolding versionIn when unless
 returns c = rw (← c .before .is-odd .ensures, c .if1 .taken)
-
-count-requires : tie.Need-count-requires Inv-loop μ-loop Inv-loop2 μ-loop2 Inv-starts μ-starts
-count-requires c κs = search needs
 
 starts-holds : tie.Need-starts-holds Inv-loop μ-loop Inv-loop2 μ-loop2 Inv-starts μ-starts
 starts-holds c = (search needs, first-none _)
-
-add-next : tie.Need-add-next Inv-loop μ-loop Inv-loop2 μ-loop2 Inv-starts μ-starts
-add-next c = search needs
-
-may-start-requires :
-    tie.Need-may-start-requires Inv-loop μ-loop Inv-loop2 μ-loop2 Inv-starts μ-starts
-may-start-requires c κs = search needs
-
-starts-less : tie.Need-starts-less Inv-loop μ-loop Inv-loop2 μ-loop2 Inv-starts μ-starts
-starts-less c = search needs
 
 starts-again : tie.Need-starts-again Inv-loop μ-loop Inv-loop2 μ-loop2 Inv-starts μ-starts
 starts-again c = skip (c .before .before) (no-start _ _ (sym (c .before .may-start .ensures) ∙ not-true _ (c .if3 .taken)))
@@ -158,16 +150,9 @@ starts-again c = skip (c .before .before) (no-start _ _ (sym (c .before .may-sta
 loop-holds : tie.Need-loop-holds Inv-loop μ-loop Inv-loop2 μ-loop2 Inv-starts μ-starts
 loop-holds c = reading-none _ _ (omega (arith, within (c .before .before)))
 
-digit-at-requires :
-    tie.Need-digit-at-requires Inv-loop μ-loop Inv-loop2 μ-loop2 Inv-starts μ-starts
-digit-at-requires c κs = search needs
-
-code-requires : tie.Need-code-requires Inv-loop μ-loop Inv-loop2 μ-loop2 Inv-starts μ-starts
-code-requires c κs = search needs
-
 with-digit-requires :
     tie.Need-with-digit-requires Inv-loop μ-loop Inv-loop2 μ-loop2 Inv-starts μ-starts
-with-digit-requires c κs = (omega (arith, c .before .before .before .loop .inv .held), rw (c .code .ensures) (first-digit (c .before)))
+with-digit-requires c κs = (rw (c .code .ensures) (first-digit (c .before)), omega (arith, c .before .before .before .loop .inv .held), omega arith)
 
 add-end : tie.Need-add-end Inv-loop μ-loop Inv-loop2 μ-loop2 Inv-starts μ-starts
 add-end c = omega (arith, digit-within _ _ (first-digit (c .before .before)), turn-of (c .before .before .before .before) .before .before .count .ensures)
@@ -178,59 +163,32 @@ loop-less c = omega (arith, digit-within _ _ (first-digit (c .before .before)))
 loop-again : tie.Need-loop-again Inv-loop μ-loop Inv-loop2 μ-loop2 Inv-starts μ-starts
 loop-again c = rw (c .with-digit .ensures, c .before .code .ensures) (reading-more _ _ _ _ (first-digit (c .before .before)) (c .before .before .before .before .loop .inv))
 
-code-requires-2 : tie.Need-code-requires-2 Inv-loop μ-loop Inv-loop2 μ-loop2 Inv-starts μ-starts
-code-requires-2 c κs = search needs
-
-starts-less-2 : tie.Need-starts-less-2 Inv-loop μ-loop Inv-loop2 μ-loop2 Inv-starts μ-starts
-starts-less-2 c = search needs
-
 starts-again-2 : tie.Need-starts-again-2 Inv-loop μ-loop Inv-loop2 μ-loop2 Inv-starts μ-starts
 starts-again-2 c = skip (turn-of (c .before .before .before .before)) (no-period _ _ _ _ (first-read (c .before .before)) (λ q. c .if5 .taken (c .before .code2 .ensures ∙ q)))
 
 add-second : tie.Need-add-second Inv-loop μ-loop Inv-loop2 μ-loop2 Inv-starts μ-starts
 add-second c = omega (arith, period-within _ _ (period-there c), turn-of (first-end-of c .before .before) .before .before .count .ensures)
 
-digit-at-requires-2 :
-    tie.Need-digit-at-requires-2 Inv-loop μ-loop Inv-loop2 μ-loop2 Inv-starts μ-starts
-digit-at-requires-2 c κs = search needs
-
-starts-less-3 : tie.Need-starts-less-3 Inv-loop μ-loop Inv-loop2 μ-loop2 Inv-starts μ-starts
-starts-less-3 c = search needs
-
 starts-again-3 : tie.Need-starts-again-3 Inv-loop μ-loop Inv-loop2 μ-loop2 Inv-starts μ-starts
-starts-again-3 c = skip (turn-of (first-end-of (c .before .before) .before .before)) (no-second _ _ _ _ (first-read (first-end-of (c .before .before))) (sym (c .before .digit-at2 .ensures) ∙ not-true _ (c .if6 .taken)))
+starts-again-3 c =
+    skip (turn-of (first-end-of (c .before .before) .before .before))
+    (no-second _ _ _ _ (first-read (first-end-of (c .before .before))) (sym (c .before .digit-at2 .ensures) ∙ not-true _ (c .if6 .taken)))
 
 loop2-holds : tie.Need-loop2-holds Inv-loop μ-loop Inv-loop2 μ-loop2 Inv-starts μ-starts
 loop2-holds c = reading-none _ _ (omega (arith, period-within _ _ (period-there (c .before .before))))
 
-digit-at-requires-3 :
-    tie.Need-digit-at-requires-3 Inv-loop μ-loop Inv-loop2 μ-loop2 Inv-starts μ-starts
-digit-at-requires-3 c κs = search needs
-
-starts-less-4 : tie.Need-starts-less-4 Inv-loop μ-loop Inv-loop2 μ-loop2 Inv-starts μ-starts
-starts-less-4 c = search needs
-
 starts-again-4 : tie.Need-starts-again-4 Inv-loop μ-loop Inv-loop2 μ-loop2 Inv-starts μ-starts
 starts-again-4 c = skip (turn-of (first-of (c .before .before .before))) (first-large _ _ _ _ (first-read (first-end-of (period-of (c .before .before .before)))) (c .if8 .taken))
 
-starts-less-5 : tie.Need-starts-less-5 Inv-loop μ-loop Inv-loop2 μ-loop2 Inv-starts μ-starts
-starts-less-5 c = search needs
-
 starts-again-5 : tie.Need-starts-again-5 Inv-loop μ-loop Inv-loop2 μ-loop2 Inv-starts μ-starts
-starts-again-5 c = skip (turn-of (first-of (c .before .before .before .before))) (second-large _ _ _ _ (first-read (first-end-of (period-of (c .before .before .before .before)))) _ _ (second-read (c .before .before)) (c .if9 .taken))
-
-cast-t21 : tie.Need-cast-t21 Inv-loop μ-loop Inv-loop2 μ-loop2 Inv-starts μ-starts
-cast-t21 c = search needs
-
-cast-t22 : tie.Need-cast-t22 Inv-loop μ-loop Inv-loop2 μ-loop2 Inv-starts μ-starts
-cast-t22 c = search needs
-
-code-requires-3 : tie.Need-code-requires-3 Inv-loop μ-loop Inv-loop2 μ-loop2 Inv-starts μ-starts
-code-requires-3 c κs = search needs
+starts-again-5 c =
+    let s : Second = c .before .before .before .before in
+    skip (turn-of (first-of s))
+    (second-large _ _ _ _ (first-read (first-end-of (period-of s))) _ _ (second-read (c .before .before)) (c .if9 .taken))
 
 with-digit-requires-2 :
     tie.Need-with-digit-requires-2 Inv-loop μ-loop Inv-loop2 μ-loop2 Inv-starts μ-starts
-with-digit-requires-2 c κs = (omega (arith, c .before .before .before .loop2 .inv .held), rw (c .code3 .ensures) (second-digit (c .before)))
+with-digit-requires-2 c κs = (rw (c .code3 .ensures) (second-digit (c .before)), omega (arith, c .before .before .before .loop2 .inv .held), omega arith)
 
 add-stop : tie.Need-add-stop Inv-loop μ-loop Inv-loop2 μ-loop2 Inv-starts μ-starts
 add-stop c = omega (arith, digit-within _ _ (second-digit (c .before .before)), turn-of (first-of (c .before .before .before .before)) .before .before .count .ensures)
@@ -242,10 +200,14 @@ loop2-again : tie.Need-loop2-again Inv-loop μ-loop Inv-loop2 μ-loop2 Inv-start
 loop2-again c = rw (c .with-digit2 .ensures, c .before .code3 .ensures) (reading-more _ _ _ _ (second-digit (c .before .before)) (c .before .before .before .before .loop2 .inv))
 
 returns-2 : tie.Need-returns-2 Inv-loop μ-loop Inv-loop2 μ-loop2 Inv-starts μ-starts
-returns-2 c = sym (searched (c .before .before .before) ∙ first-all _ _ _ (omega (arith, c .before .before .count .ensures)) (c .before .starts .inv .1))
+returns-2 c =
+    let e : length (string (c .before .before .before)) ≡ c .before .starts .next = omega (arith, c .before .before .count .ensures) in
+    sym (searched (c .before .before .before) ∙ ap foundOr25 (ap (firstOf _) e ∙ c .before .starts .inv .1))
 
 returns-3 : tie.Need-returns-3 Inv-loop μ-loop Inv-loop2 μ-loop2 Inv-starts μ-starts
-returns-3 c = let t : Turn = turn-of (first-of (c .before .before .before .before)) in sym (searched (even-of t) ∙ first-found _ _ _ _ _ (within t) (t .before .starts .inv .1) (found c))
+returns-3 c =
+    let t : Turn = turn-of (first-of (c .before .before .before .before)) in
+    sym (searched (even-of t) ∙ ap foundOr25 (first-stop _ _ _ (within t) (t .before .starts .inv .1) (found c)))
 
 pub version-of-spec : {M : Type 1} → statement M
 version-of-spec =
@@ -257,37 +219,37 @@ version-of-spec =
     μ-loop2
     Inv-starts
     μ-starts
-    is-odd-requires
+    (λ c κs. search needs)
     returns
-    count-requires
+    (λ c κs. search needs)
     starts-holds
-    add-next
-    may-start-requires
-    starts-less
+    (λ c. search needs)
+    (λ c κs. search needs)
+    (λ c. search needs)
     starts-again
     loop-holds
-    digit-at-requires
-    code-requires
+    (λ c κs. search needs)
+    (λ c κs. search needs)
     with-digit-requires
     add-end
     loop-less
     loop-again
-    code-requires-2
-    starts-less-2
+    (λ c κs. search needs)
+    (λ c. search needs)
     starts-again-2
     add-second
-    digit-at-requires-2
-    starts-less-3
+    (λ c κs. search needs)
+    (λ c. search needs)
     starts-again-3
     loop2-holds
-    digit-at-requires-3
-    starts-less-4
+    (λ c κs. search needs)
+    (λ c. search needs)
     starts-again-4
-    starts-less-5
+    (λ c. search needs)
     starts-again-5
-    cast-t21
-    cast-t22
-    code-requires-3
+    (λ c. search needs)
+    (λ c. search needs)
+    (λ c κs. search needs)
     with-digit-requires-2
     add-stop
     loop2-less

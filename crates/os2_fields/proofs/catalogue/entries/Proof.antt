@@ -4,8 +4,6 @@ use mathlib.Core.Path.{refl}
 use Rattle.os2_fields.specs.Catalogue.{catalogue}
 use Rattle.os2_fields.proofs.catalogue.entries.Statement.{statement}
 use Rattle.os2_fields.proofs.catalogue.entries.Tie as tie
-use Rattle.os2_fields.proofs.catalogue.entries.Reads as reads
-use Rattle.os2_fields.proofs.catalogue.entries.Lts as lts
 
 returns : tie.Need-returns
 unfolding catalogue

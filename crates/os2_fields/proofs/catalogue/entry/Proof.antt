@@ -5,18 +5,9 @@ use borrow.Author.Needs.{needs}
 use Rattle.os2_fields.proofs.catalogue.entry.Statement.{statement}
 use Rattle.os2_fields.proofs.catalogue.entry.Tie as tie
 
-entries-requires : tie.Need-entries-requires
-entries-requires c κs = search needs
-
-mul-result : tie.Need-mul-result
-mul-result c = search needs
-
-array-copy-out-result : tie.Need-array-copy-out-result
-array-copy-out-result c = search needs
-
 returns : tie.Need-returns
 unfolding fieldOf
 returns c = rw (c .before .entries .ensures)
 
 pub entry-spec : {M : Type 1} → statement M
-entry-spec = tie.close (tie.spec entries-requires mul-result array-copy-out-result returns)
+entry-spec = tie.close (tie.spec (λ c κs. search needs) (λ c. search needs) (λ c. search needs) returns)

@@ -12,41 +12,17 @@ Inv-loop line word₀ i₀ word i = (word ≤ i) × (i ≤ length line)
 abbrev μ-loop : tie.MeasureT-loop
 μ-loop line word₀ i₀ word i = length line - i
 
-loop-holds : tie.Need-loop-holds Inv-loop μ-loop
-loop-holds c = search needs
-
-shared-slice-read-spaces : tie.Need-shared-slice-read-spaces Inv-loop μ-loop
-shared-slice-read-spaces c = search needs
-
-spaces-requires : tie.Need-spaces-requires Inv-loop μ-loop
-spaces-requires c κs = search needs
-
-add-word : tie.Need-add-word Inv-loop μ-loop
-add-word c = search needs
-
-add-i : tie.Need-add-i Inv-loop μ-loop
-add-i c = search needs
-
-loop-less : tie.Need-loop-less Inv-loop μ-loop
-loop-less c = search needs
-
-loop-again : tie.Need-loop-again Inv-loop μ-loop
-loop-again c = search needs
-
-returns : tie.Need-returns Inv-loop μ-loop
-returns c = search needs
-
 pub last-word-spec : {M : Type 1} → statement M
 last-word-spec =
     tie.close
     (tie.spec
     Inv-loop
     μ-loop
-    loop-holds
-    shared-slice-read-spaces
-    spaces-requires
-    add-word
-    add-i
-    loop-less
-    loop-again
-    returns)
+    (λ c. search needs)
+    (λ c. search needs)
+    (λ c κs. search needs)
+    (λ c. search needs)
+    (λ c. search needs)
+    (λ c. search needs)
+    (λ c. search needs)
+    (λ c. search needs))

@@ -17,11 +17,5 @@ equal-to-itself (fin s m e) h = tt
 float-to-bits-result : tie.Need-float-to-bits-result
 float-to-bits-result c = equal-to-itself _ (c .if1 .taken)
 
-returns : tie.Need-returns
-returns c = search needs
-
-returns-2 : tie.Need-returns-2
-returns-2 c = search needs
-
 pub bits-of-spec : {M : Type 1} → statement M
-bits-of-spec = tie.close (tie.spec float-to-bits-result returns returns-2)
+bits-of-spec = tie.close (tie.spec float-to-bits-result (λ c. search needs) (λ c. search needs))

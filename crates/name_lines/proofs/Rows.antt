@@ -1,0 +1,29 @@
+-- Document 01's listings, by computation.
+-- Assumes nothing.
+use mathlib.Core.Path.{_≡_, refl}
+use mathlib.Core.List.{map}
+use Rattle.outcomes.specs.Firsts.{when, _then_, firstOf}
+use Rattle.outcomes.specs.Outcomes.{unless}
+use Rattle.bigendian.specs.Numbers.{number}
+use Rattle.characters.specs.Strings.{char, odd}
+use Rattle.charset.specs.Allowed.{allowed}
+use Rattle.name_layout.specs.Layout.{tagCount, tagsAt, bytesOf}
+use Rattle.name_layout.specs.Keys.{keyOf, same, below}
+use Rattle.name.specs.Acceptance.{tooShort, otherFormat, recordsPass, tagsPass, misplaced, stringPasses, forbidden, languageRefused, notAbove}
+use Rattle.name.specs.Acceptance.{layoutFault, recordFault, tagFault, faults}
+use Rattle.name_search.specs.Searches.{recordWith, textOf}
+use Rattle.name_answers.specs.Forms.{tooFew, tooMany, wrongCount, otherAt, illFormed, differAt, differ}
+use Rattle.name_answers.specs.Names.{fromStrings, fromBoth, postscriptOf}
+use Rattle.name_answers.specs.Versions.{fromRecords, versionOf}
+use Rattle.lines.specs.Numerals.{digits, decimal}
+use Rattle.lines.specs.Lines.{listed}
+use Rattle.name_lines.specs.Lines.{headLine, keyParts, recordLine, postscriptLine}
+use Rattle.name_lines.specs.Listings.{recordTexts, listingOf}
+use Rattle.name_lines.specs.Examples.{tables, listings}
+
+pub listings-hold : map listingOf tables ≡ listings
+unfolding when _then_ firstOf unless number char odd allowed tagCount tagsAt bytesOf keyOf same below
+    tooShort otherFormat recordsPass tagsPass misplaced stringPasses forbidden languageRefused notAbove layoutFault recordFault tagFault faults
+    recordWith textOf tooFew tooMany wrongCount otherAt illFormed differAt differ fromStrings fromBoth postscriptOf fromRecords versionOf
+    digits decimal listed headLine keyParts recordLine postscriptLine recordTexts listingOf
+listings-hold = refl

@@ -1,0 +1,100 @@
+-- A search finds a record that has the key, in an accepted table the only one; and what the code's numbers find is that record.
+-- Assumes nothing.
+use Prim.Native.Nat.{ℕ, _+_, _-_, _≤_, _<_}
+use mathlib.Core.Path.{_≡_, refl, sym, ap, _∙_}
+use mathlib.Core.Logic.{_↔_}
+use mathlib.Core.Bool.{true, false, false≢true}
+use mathlib.Core.Option.{none, some}
+use mathlib.Core.List.{List}
+use native.Mathlib.Nat.{suc-le-suc-iff}
+use native.Mathlib.Omega.{arith}
+use lib.ListN.{length, take, drop}
+use Rattle.bigendian.specs.Numbers.{Bytes}
+use Rattle.outcomes.specs.Firsts.{when}
+use Rattle.outcomes.proofs.Laws.{when-none, when-some, lowest-exactly, first-all, first-exactly, first-same}
+use Rattle.outcomes.proofs.Tests.{or-false, not-below, fails}
+use Rattle.name_layout.specs.Layout.{count, bytesOf}
+use Rattle.name_layout.specs.Keys.{Key, keyOf, same, packed}
+use Rattle.name_layout.proofs.Keys.{Small, key-small, same-is, same-packed}
+use Rattle.name.specs.Acceptance.{faults}
+use Rattle.name.proofs.Acceptances.{keys-rise, string-inside}
+use Rattle.name_search.specs.declared.Text.{Text}
+use Rattle.name_search.specs.Searches.{HasKey, recordWith, beyond, recordNumbered, textOf}
+use Rattle.name_search.proofs.Halvings.{Rising, rising}
+
+-- the keys of an accepted table rise
+pub ordered : (t : List ℕ) → Bytes t → faults t ≡ none → Rising (λ i. packed (keyOf t i)) (count t)
+ordered t b a = rising _ _ (keys-rise t a b)
+
+-- each part of a key is below 65,536, or one is beyond
+pub not-beyond : (k : Key) → (beyond k ≡ false) ↔ Small k
+not-beyond k = (
+  (λ e.
+      let p = or-false _ _ .0 e in
+      let q = or-false _ _ .0 (p .0) in
+      let r = or-false _ _ .0 (q .0) in
+      record {
+        platform = suc-le-suc-iff .1 (not-below 65535 (k .platform) .0 (r .0));
+        encoding = suc-le-suc-iff .1 (not-below 65535 (k .encoding) .0 (r .1));
+        language = suc-le-suc-iff .1 (not-below 65535 (k .language) .0 (q .1));
+        name = suc-le-suc-iff .1 (not-below 65535 (k .name) .0 (p .1));
+      }),
+  λ s.
+      let a = not-below 65535 (k .platform) .1 (omega arith) in
+      let b = not-below 65535 (k .encoding) .1 (omega arith) in
+      let c = not-below 65535 (k .language) .1 (omega arith) in
+      let d = not-below 65535 (k .name) .1 (omega arith) in
+      or-false _ _ .1 (or-false _ _ .1 (or-false _ _ .1 (a, b), c), d),
+)
+
+module _ (t : List ℕ) (k : Key) where
+  -- what is found has the key
+  pub find-has : {i : ℕ} → recordWith t k ≡ some i → HasKey t k i
+  unfolding recordWith
+  find-has {i} f =
+      let p = lowest-exactly (λ j. same (keyOf t j) k) (λ j. j) (count t) i .0 f in
+      record { inside = rw (p .is) at (p .inside); has = same-is (keyOf t i) k .0 (rw (p .is) at (p .holds)) }
+
+  -- nothing is found exactly when no record has it
+  pub find-none : (recordWith t k ≡ none) ↔ ((i : ℕ) → HasKey t k i → ⊥)
+  unfolding recordWith
+  find-none = (
+    λ f i h. fails _ (same-is (keyOf t i) k) .0 (when-none _ _ .0 (first-all _ (count t) .0 f i (h .inside))) (h .has),
+    λ f. first-all _ (count t) .1 (λ i l. when-none _ _ .1 (fails _ (same-is (keyOf t i) k) .1 (λ e. f i (record { inside = l; has = e })))),
+  )
+
+  module _ (b : Bytes t) where
+    -- in an accepted table, the only one that has it
+    pub find-at : faults t ≡ none → {i : ℕ} → HasKey t k i → recordWith t k ≡ some i
+    unfolding recordWith Rising
+    find-at a {i} h =
+        first-exactly _ (count t) i .1 (record {
+          place = i;
+          inside = h .inside;
+          here = when-some _ i i .1 (same-is (keyOf t i) k .1 (h .has), refl);
+          earlier = λ j l. when-none _ j .1 (fails _ (same-is (keyOf t j) k) .1 (λ e. omega (arith, ap packed e, ap packed (h .has), ordered t b a j i l (h .inside))));
+        })
+
+    -- ---- by the code's numbers
+
+    pub find-numbered : Small k → recordNumbered t (packed k) ≡ recordWith t k
+    unfolding recordWith recordNumbered
+    find-numbered s = first-same _ _ (count t) (λ i l. ap (λ test. when test i) (sym (same-packed (key-small t b i) s)))
+
+    -- a part above 65,535 is in no record
+    pub find-beyond : beyond k ≡ true → recordWith t k ≡ none
+    find-beyond e = find-none .1 (λ i h. false≢true (sym (not-beyond k .1 (rw (h .has) at (key-small t b i))) ∙ e))
+
+-- ---- a record's string
+
+module _ (t : List ℕ) {x : Text} (i : ℕ) (e : x ≡ textOf t i) where
+  pub text-inside : faults t ≡ none → i < count t → x .start + x .len ≤ length t
+  unfolding textOf
+  text-inside a h = rw e (string-inside t a i h)
+
+  -- the part cut out is its bytes
+  pub part-is : take (x .start + x .len - x .start) (drop (x .start) t) ≡ bytesOf t i
+  unfolding bytesOf textOf
+  part-is =
+      let z : x .start + x .len - x .start ≡ x .len = omega arith in
+      rw (z, e)

@@ -1,0 +1,38 @@
+-- Which record of a table has a key, as a search and as a proposition; and the string of a record.
+use Prim.Native.Nat.{ℕ, _<_}
+use mathlib.Core.Path.{_≡_}
+use mathlib.Core.Bool.{Bool, _||_}
+use mathlib.Core.Option.{Option, none, some}
+use mathlib.Core.List.{List}
+use lib.Dec.{ltb, eqb}
+use Rattle.outcomes.specs.Firsts.{when, firstOf}
+use Rattle.name_layout.specs.Layout.{count, textAt, stringStart, stringLength}
+use Rattle.name_layout.specs.Keys.{Key, keyOf, same, packed}
+use Rattle.name_search.specs.declared.Found.{Found}
+use Rattle.name_search.specs.declared.Found.the-variants.{Record, Nothing}
+use Rattle.name_search.specs.declared.Text.{Text}
+
+-- record i has the key
+pub record HasKey (t : List ℕ) (k : Key) (i : ℕ) : Type 0 where
+  pub inside : i < count t
+  pub has : keyOf t i ≡ k
+
+-- the record that has the key, if there is one
+unfoldable pub recordWith : List ℕ → Key → Option ℕ
+recordWith t k = firstOf (λ i. when (same (keyOf t i) k) i) (count t)
+
+-- what a search found
+abbrev pub foundOf : Found → Option ℕ
+foundOf (Record i) = some i
+foundOf Nothing = none
+
+-- in the code: a key of which a part is no 16-bit number, and the record whose key is one number
+abbrev pub beyond : Key → Bool
+beyond k = ltb 65535 (k .platform) || ltb 65535 (k .encoding) || ltb 65535 (k .language) || ltb 65535 (k .name)
+
+unfoldable pub recordNumbered : List ℕ → ℕ → Option ℕ
+recordNumbered t number = firstOf (λ i. when (eqb (packed (keyOf t i)) number) i) (count t)
+
+-- "Lookup gives the string's start, from the table's first byte, and its length"
+unfoldable pub textOf : List ℕ → ℕ → Text
+textOf t i = record { start = stringStart t (textAt i); len = stringLength t (textAt i) }

@@ -1,0 +1,4 @@
+pub mod Accepting
+pub mod Trimming
+pub mod Numbers
+pub mod Saying

@@ -1,0 +1,4 @@
+pub mod Acceptance
+pub mod Settled
+pub mod Demands
+pub mod Replies

@@ -1,0 +1,260 @@
+-- What `ask` answers is what document 01 settles, and nothing else is settled: each test of the definition is matched with its proposition.
+-- Assumes nothing.
+use Prim.Native.Nat.{ℕ, zero, suc, _<_, _≤_}
+use mathlib.Core.Path.{_≡_, refl, sym, ap, _∙_}
+use mathlib.Core.Logic.{inl, inr, ⊎-elim, _↔_, Iff·rfl, Iff·trans, Iff·and}
+use mathlib.Core.Bool.{Bool, true, false, cond, false≢true}
+use mathlib.Core.Option.{Option, none, some}
+use mathlib.Core.List.{List}
+use native.Mathlib.Decide.{decLt}
+use native.Mathlib.Omega.{arith}
+use lib.Dec.{ltb, eqb}
+use borrow.Author.Tests.{lt-ltb, le-ltb, eq-eqb, ne-eqb, ltb-true, ltb-false, eqb-true, eqb-false}
+use Rattle.outcomes.specs.Firsts.{when, _then_}
+use Rattle.outcomes.specs.Outcomes.{Refusal, bare, Outcome, refused, answered, unless}
+use Rattle.outcomes.proofs.Laws.{when-none, when-some}
+use Rattle.outcomes.proofs.Tests.{below, not-below, fails}
+use Rattle.level.specs.Levels.{newest}
+use Rattle.os2_rules.specs.Bits.{bit}
+use Rattle.os2_rules.specs.Rules.{RightsRule}
+use Rattle.os2_rules.proofs.Exactly.{bit-small}
+use Rattle.os2_fields.specs.Fields.{raw, version, valuesOf}
+use Rattle.os2_style.specs.Style.{Sizes, every, upwards, between, rightsOf, points, sizesOf}
+use Rattle.os2_acceptance.specs.Acceptance.{judged}
+use Rattle.os2_acceptance.specs.Settled.{Accepted}
+use Rattle.os2_acceptance.proofs.Accepting.{judged-exactly, judged-short, judged-broken, judged-ways}
+use Rattle.os2_answers.specs.declared.Question.{Question}
+use Rattle.os2_answers.specs.declared.Question.the-variants.{Field, SelectionBit, UnicodeBit, CodePageBit, Rights, StylePosition, OpticalSizes}
+use Rattle.os2_answers.specs.Values.{Value, rights, sizes, Said}
+use Rattle.os2_answers.specs.Questions.{ownRefusal, since, onWhole}
+use Rattle.os2_answers.specs.Asking.{above, valueOf, given, beforeTable, ask}
+use Rattle.os2_answers.specs.Settled.{OwnRefusal, no-field, no-selection-bit, no-unicode-bit, no-code-page-bit}
+use Rattle.os2_answers.specs.Settled.{CameIn, field-came, selection-came, selection-came-later, unicode-came, code-page-came, rights-came, style-came, optical-came}
+use Rattle.os2_answers.specs.Settled.{OnWhole, rights-whole, style-whole, optical-whole, Later, after, newer}
+use Rattle.os2_answers.specs.Settled.{RightsAre, none-set, one-set, SizesAre, all, from-lower, both}
+use Rattle.os2_answers.specs.Settled.{Says, field-says, selection-says, unicode-says, code-page-says, rights-say, style-says, optical-says}
+use Rattle.os2_answers.specs.Settled.{Settled, level-above, own-number, too-short, rule-broken, is-not-known, is-absent, is-value}
+use Rattle.os2_answers.specs.Demands.{AnswersSettled}
+use Rattle.os2_answers.proofs.Cases.{above-exactly, not-above, unknown-exactly, known-exactly, unknownTo, given-not-known, given-absent, given-value}
+
+-- ---- the questions
+
+-- a number in its range, and one above it
+pub under : (n k : ℕ) (r : Refusal) → (when (ltb n k) r ≡ none) ↔ (k ≤ n)
+under n k r = Iff·trans (when-none (ltb n k) r) (not-below n k)
+
+over : (n k : ℕ) (r s : Refusal) → (when (ltb n k) r ≡ some s) ↔ ((n < k) × (r ≡ s))
+over n k r s = Iff·trans (when-some (ltb n k) r s) (Iff·and (below n k) Iff·rfl)
+
+pub came : (q : Question) → ownRefusal q ≡ none → CameIn q (since q)
+unfolding ownRefusal since
+came (Field k) e = field-came (under 47 k (bare 6) .0 e)
+came (SelectionBit n) e = at (ltb n 7) refl
+  where
+    at : (t : Bool) → ltb n 7 ≡ t → CameIn (SelectionBit n) (cond t 0 4)
+    at true d = selection-came {n = n} (omega (arith, ltb-true n 7 d))
+    at false d = selection-came-later (ltb-false n 7 d) (under 9 n (bare 7) .0 e)
+came (UnicodeBit n) e = unicode-came (under 127 n (bare 7) .0 e)
+came (CodePageBit n) e = code-page-came (under 63 n (bare 7) .0 e)
+came Rights e = rights-came
+came StylePosition e = style-came
+came OpticalSizes e = optical-came
+
+pub came-since : {q : Question} {p : ℕ} → CameIn q p → (ownRefusal q ≡ none) × (p ≡ since q)
+unfolding ownRefusal since
+came-since (field-came {k} h) = (under 47 k (bare 6) .1 h, refl)
+came-since (selection-came {n} h) = (under 9 n (bare 7) .1 (omega arith), rw (lt-ltb n 7 (omega arith)))
+came-since (selection-came-later {n} h l) = (under 9 n (bare 7) .1 l, rw (le-ltb n 7 h))
+came-since (unicode-came {n} h) = (under 127 n (bare 7) .1 h, refl)
+came-since (code-page-came {n} h) = (under 63 n (bare 7) .1 h, refl)
+came-since rights-came = (refl, refl)
+came-since style-came = (refl, refl)
+came-since optical-came = (refl, refl)
+
+own : (q : Question) (r : Refusal) → ownRefusal q ≡ some r → (n : ℕ) × (bare n ≡ r) × OwnRefusal q n
+unfolding ownRefusal
+own (Field k) r e = let o = over 47 k (bare 6) r .0 e in (6, o .1, no-field (o .0))
+own (SelectionBit n) r e = let o = over 9 n (bare 7) r .0 e in (7, o .1, no-selection-bit (o .0))
+own (UnicodeBit n) r e = let o = over 127 n (bare 7) r .0 e in (7, o .1, no-unicode-bit (o .0))
+own (CodePageBit n) r e = let o = over 63 n (bare 7) r .0 e in (7, o .1, no-code-page-bit (o .0))
+own Rights r e = let z : _≡_ {A = ℕ} 0 1 = cc in absurd (omega arith)
+own StylePosition r e = let z : _≡_ {A = ℕ} 0 1 = cc in absurd (omega arith)
+own OpticalSizes r e = let z : _≡_ {A = ℕ} 0 1 = cc in absurd (omega arith)
+
+own-is : {q : Question} {n : ℕ} → OwnRefusal q n → ownRefusal q ≡ some (bare n)
+unfolding ownRefusal
+own-is (no-field {k} h) = over 47 k (bare 6) (bare 6) .1 (h, refl)
+own-is (no-selection-bit {n} h) = over 9 n (bare 7) (bare 7) .1 (h, refl)
+own-is (no-unicode-bit {n} h) = over 127 n (bare 7) (bare 7) .1 (h, refl)
+own-is (no-code-page-bit {n} h) = over 63 n (bare 7) (bare 7) .1 (h, refl)
+
+whole : (q : Question) → onWhole q ≡ true → OnWhole q
+unfolding onWhole
+whole (Field k) e = absurd (false≢true e)
+whole (SelectionBit n) e = absurd (false≢true e)
+whole (UnicodeBit n) e = absurd (false≢true e)
+whole (CodePageBit n) e = absurd (false≢true e)
+whole Rights e = rights-whole
+whole StylePosition e = style-whole
+whole OpticalSizes e = optical-whole
+
+whole-is : {q : Question} → OnWhole q → (onWhole q ≡ true) × (ownRefusal q ≡ none)
+unfolding onWhole ownRefusal
+whole-is rights-whole = (refl, refl)
+whole-is style-whole = (refl, refl)
+whole-is optical-whole = (refl, refl)
+
+-- the test of "not known" says just what document 01 says of a question whose number is in its range
+module _ (L : ℕ) (b : List ℕ) (q : Question) where
+  pub later-is : Later L b q → (ownRefusal q ≡ none) × (unknownTo L b q ≡ true)
+  later-is (after c h) = let s = came-since c in (s .0, unknown-exactly (since q) (onWhole q) L (version b) .1 (inl (rw (s .1) at h)))
+  later-is (newer o h) = let s = whole-is o in (s .1, unknown-exactly (since q) (onWhole q) L (version b) .1 (inr (s .0, h)))
+
+  pub later-exactly : ownRefusal q ≡ none → (unknownTo L b q ≡ true) ↔ Later L b q
+  later-exactly r = (
+    λ e. ⊎-elim (λ n. after (came q r) n) (λ n. newer (whole q (n .0)) (n .1)) (unknown-exactly (since q) (onWhole q) L (version b) .0 e),
+    λ l. later-is l .1,
+  )
+
+-- ---- the values
+
+module _ (fstype : ℕ) where
+  rights-are : RightsAre fstype (rightsOf fstype)
+  unfolding rightsOf
+  rights-are = three (ltb 0 (bit 3 fstype)) refl
+    where
+      set : (k : ℕ) → ltb 0 (bit k fstype) ≡ true → bit k fstype ≡ 1
+      set k e = omega (arith, ltb-true 0 (bit k fstype) e, bit-small k fstype)
+
+      clear : (k : ℕ) → ltb 0 (bit k fstype) ≡ false → bit k fstype ≡ 0
+      clear k e = omega (arith, ltb-false 0 (bit k fstype) e)
+
+      one : bit 3 fstype ≡ 0 → bit 2 fstype ≡ 0 → (t : Bool) → ltb 0 (bit 1 fstype) ≡ t → RightsAre fstype (cond t 1 0)
+      one z y true e = one-set {k = 1} (omega arith) (omega arith) (set 1 e)
+      one z y false e = none-set (clear 1 e) y z
+
+      two : bit 3 fstype ≡ 0 → (t : Bool) → ltb 0 (bit 2 fstype) ≡ t → RightsAre fstype (cond t 2 (cond (ltb 0 (bit 1 fstype)) 1 0))
+      two z true e = one-set {k = 2} (omega arith) (omega arith) (set 2 e)
+      two z false e = one z (clear 2 e) (ltb 0 (bit 1 fstype)) refl
+
+      three : (t : Bool) → ltb 0 (bit 3 fstype) ≡ t → RightsAre fstype (cond t 3 (cond (ltb 0 (bit 2 fstype)) 2 (cond (ltb 0 (bit 1 fstype)) 1 0)))
+      three true e = one-set {k = 3} (omega arith) (omega arith) (set 3 e)
+      three false e = two (clear 3 e) (ltb 0 (bit 2 fstype)) refl
+
+  -- while at most one bit is set, there is one answer
+  rights-once : (w k : ℕ) → RightsRule w fstype → RightsAre fstype k → k ≡ rightsOf fstype
+  unfolding rightsOf
+  rights-once w zero r (none-set a b c) = rw (a, b, c)
+  rights-once w zero r (one-set l m e) = absurd (omega arith)
+  rights-once w (suc zero) r (one-set l m e) = let y : bit 2 fstype ≡ 0 = omega arith in let z : bit 3 fstype ≡ 0 = omega arith in rw (e, y, z)
+  rights-once w (suc (suc zero)) r (one-set l m e) = let z : bit 3 fstype ≡ 0 = omega arith in rw (e, z)
+  rights-once w (suc (suc (suc zero))) r (one-set l m e) = rw e
+  rights-once w (suc (suc (suc (suc k)))) r (one-set l m e) = absurd (omega arith)
+
+module _ (lower upper : ℕ) where
+  sizes-are : SizesAre lower upper (sizesOf lower upper)
+  unfolding sizesOf
+  sizes-are = at (eqb upper 65535) refl (eqb lower 0) refl
+    where
+      at : (s : Bool) → eqb upper 65535 ≡ s → (t : Bool) → eqb lower 0 ≡ t →
+          SizesAre lower upper (cond s (cond t every (upwards (points lower))) (between (points lower) (points upper)))
+      at true u true l = all (eqb-true lower 0 l) (eqb-true upper 65535 u)
+      at true u false l = from-lower (eqb-false lower 0 l) (eqb-true upper 65535 u)
+      at false u t l = both (eqb-false upper 65535 u)
+
+  sizes-once : {s : Sizes} → SizesAre lower upper s → s ≡ sizesOf lower upper
+  unfolding sizesOf
+  sizes-once (all l u) = rw (eq-eqb upper 65535 u, eq-eqb lower 0 l)
+  sizes-once (from-lower l u) = rw (eq-eqb upper 65535 u, ne-eqb lower 0 l)
+  sizes-once (both u) = rw (ne-eqb upper 65535 u)
+
+pub says : (b : List ℕ) (q : Question) → Says b q (valueOf b q)
+unfolding valueOf
+says b (Field k) = field-says
+says b (SelectionBit n) = selection-says
+says b (UnicodeBit n) = unicode-says
+says b (CodePageBit n) = code-page-says
+says b Rights = rights-say (rights-are (raw b 4))
+says b StylePosition = style-says
+says b OpticalSizes = optical-says (sizes-are (raw b 46) (raw b 47))
+
+-- rule 4 is what makes rights one
+says-once : (b : List ℕ) {q : Question} {v : Value} → (onWhole q ≡ true → RightsRule (version b) (raw b 4)) → Says b q v → v ≡ valueOf b q
+unfolding valueOf onWhole
+says-once b r field-says = refl
+says-once b r selection-says = refl
+says-once b r unicode-says = refl
+says-once b r code-page-says = refl
+says-once b r (rights-say {k} h) = ap rights (rights-once (raw b 4) (version b) k (r refl) h)
+says-once b r style-says = refl
+says-once b r (optical-says h) = ap sizes (sizes-once (raw b 46) (raw b 47) h)
+
+-- ---- the outcome
+
+module _ (L : ℕ) (b : List ℕ) (q : Question) where
+  pub ask-above : newest < L → ask L b q ≡ refused 1 none
+  unfolding ask beforeTable unless when _then_
+  ask-above h = rw (lt-ltb newest L h)
+
+  pub ask-own : L ≤ newest → {r : Refusal} → ownRefusal q ≡ some r → ask L b q ≡ refused (r .number) (r .carried)
+  unfolding ask beforeTable unless when _then_
+  ask-own h e = rw (le-ltb newest L h, e)
+
+  pub ask-judged : L ≤ newest → ownRefusal q ≡ none → ask L b q ≡ unless (judged L b) (answered (given L b q))
+  unfolding ask beforeTable when _then_
+  ask-judged h e = rw (le-ltb newest L h, e)
+
+  pub ask-accepted : L ≤ newest → ownRefusal q ≡ none → Accepted L b → ask L b q ≡ answered (given L b q)
+  unfolding unless
+  ask-accepted h e a = ask-judged h e ∙ rw (judged-exactly L b .1 a)
+
+  -- a question on the whole table that is known is one on a table whose rules hold
+  rule-4 : Accepted L b → unknownTo L b q ≡ false → onWhole q ≡ true → RightsRule (version b) (raw b 4)
+  unfolding valuesOf
+  rule-4 a e w = a .ruled (known-exactly (since q) (onWhole q) L (version b) .0 e .1 w) 4 .rule-4 refl
+
+  -- what `ask` answers is settled
+  settled : Settled L b q (ask L b q)
+  unfolding unless
+  settled = level (decLt newest L)
+    where
+      answer : L ≤ newest → (r : ownRefusal q ≡ none) → Accepted L b → (s : Bool) → unknownTo L b q ≡ s → (t : Bool) → above (since q) (version b) ≡ t →
+          Settled L b q (answered (given L b q))
+      answer h r a true e t d = rw (given-not-known L b q e) (is-not-known h (came q r) a (later-exactly L b q r .0 e))
+      answer h r a false e true d =
+          rw (given-absent L b q e d) (is-absent h (came q r) a (fails _ (later-exactly L b q r) .0 e) (above-exactly (since q) (version b) .0 d))
+      answer h r a false e false d =
+          rw (given-value L b q e d) (is-value h (came q r) a (fails _ (later-exactly L b q r) .0 e) (not-above (since q) (version b) .0 d) (says b q))
+
+      number : L ≤ newest → (o : Option Refusal) → ownRefusal q ≡ o → Settled L b q (ask L b q)
+      number h none r =
+          rw (ask-judged h r)
+          (judged-ways L b (λ o. Settled L b q (unless o (answered (given L b q)))) (too-short h (came q r)) (λ k. rule-broken h (came q r))
+          (λ a. answer h r a (unknownTo L b q) refl (above (since q) (version b)) refl))
+      number h (some r) e = let o = own q r e in rw (ask-own h (e ∙ ap some (sym (o .1)))) (own-number h (o .2))
+
+      level : Dec (newest < L) → Settled L b q (ask L b q)
+      level (yes h) = rw (ask-above h) (level-above h)
+      level (no h) = number (omega arith) (ownRefusal q) refl
+
+-- demands 1 and 2, of ours
+pub settles : AnswersSettled ask
+settles L b q = settled L b q
+
+-- and nothing else is
+pub settled-is : (L : ℕ) (b : List ℕ) (q : Question) (a : Outcome Said) → Settled L b q a → ask L b q ≡ a
+unfolding unless
+settled-is L b q a (level-above h) = ask-above L b q h
+settled-is L b q a (own-number h o) = ask-own L b q h (own-is o)
+settled-is L b q a (too-short h c s) = ask-judged L b q h (came-since c .0) ∙ rw (judged-short L b s)
+settled-is L b q a (rule-broken {k = k} h c s r) = ask-judged L b q h (came-since c .0) ∙ rw (judged-broken L b k s r)
+settled-is L b q a (is-not-known h c k l) = ask-accepted L b q h (came-since c .0) k ∙ ap answered (given-not-known L b q (later-is L b q l .1))
+settled-is L b q a (is-absent {p} h c k n m) =
+    let i = came-since c in
+    let e = fails _ (later-exactly L b q (i .0)) .1 n in
+    ask-accepted L b q h (i .0) k ∙ ap answered (given-absent L b q e (above-exactly (since q) (version b) .1 (rw (i .1) at m)))
+settled-is L b q a (is-value {p} {v} h c k n m s) =
+    let i = came-since c in
+    let e = fails _ (later-exactly L b q (i .0)) .1 n in
+    ask-accepted L b q h (i .0) k
+    ∙ (ap answered (given-value L b q e (not-above (since q) (version b) .1 (rw (i .1) at m))) ∙ rw (says-once b (rule-4 L b q k e) s))

@@ -1,0 +1,13 @@
+-- The test is the definition.
+-- Assumes nothing.
+use mathlib.Core.Path.{refl}
+use Rattle.os2_answers.specs.Asking.{above}
+use Rattle.os2_answers.proofs.above.Statement.{statement}
+use Rattle.os2_answers.proofs.above.Tie as tie
+
+returns : tie.Need-returns
+unfolding above
+returns c = refl
+
+pub above-spec : {M : Type 1} → statement M
+above-spec = tie.close (tie.spec returns)

@@ -1,0 +1,9 @@
+pub mod Values
+pub mod Questions
+pub mod Asking
+pub mod Reading
+pub mod Replies
+pub mod Settled
+pub mod Demands
+pub mod RoundTrips
+pub mod Examples

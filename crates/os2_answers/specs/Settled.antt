@@ -1,0 +1,83 @@
+-- What document 01 settles of a question, in propositions: which refusal or which answer it has.
+use Prim.Native.Nat.{ℕ, _+_, _/_, _%_, _<_, _≤_}
+use mathlib.Core.Path.{_≡_}
+use mathlib.Core.Option.{none, some}
+use mathlib.Core.List.{List}
+use lib.IntN.{pos}
+use Rattle.outcomes.specs.Outcomes.{Outcome, refused, answered}
+use Rattle.level.specs.Levels.{newest}
+use Rattle.os2_rules.specs.Bits.{bit}
+use Rattle.os2_fields.specs.Catalogue.{fieldOf}
+use Rattle.os2_fields.specs.Fields.{valueIn, raw, version}
+use Rattle.os2_style.specs.Style.{Sizes, every, upwards, between, float, percentOf, points}
+use Rattle.os2_acceptance.specs.Settled.{Short, BreaksFirst, Accepted}
+use Rattle.os2_answers.specs.declared.Question.{Question}
+use Rattle.os2_answers.specs.declared.Question.the-variants.{Field, SelectionBit, UnicodeBit, CodePageBit, Rights, StylePosition, OpticalSizes}
+use Rattle.os2_answers.specs.Values.{Value, integer, rights, position, sizes, Said, value, absent, not-known}
+
+-- ---- the questions
+
+-- the refusal of a question's own number
+pub data OwnRefusal : Question → ℕ → Type 0 where
+  no-field : {k : ℕ} → 47 < k → OwnRefusal (Field k) 6
+  no-selection-bit : {n : ℕ} → 9 < n → OwnRefusal (SelectionBit n) 7
+  no-unicode-bit : {n : ℕ} → 127 < n → OwnRefusal (UnicodeBit n) 7
+  no-code-page-bit : {n : ℕ} → 63 < n → OwnRefusal (CodePageBit n) 7
+
+-- the version that what a question concerns came in with; a number that gives 6 or 7 concerns nothing that came in
+pub data CameIn : Question → ℕ → Type 0 where
+  field-came : {k : ℕ} → k ≤ 47 → CameIn (Field k) (fieldOf k .since)
+  selection-came : {n : ℕ} → n ≤ 6 → CameIn (SelectionBit n) 0
+  selection-came-later : {n : ℕ} → 7 ≤ n → n ≤ 9 → CameIn (SelectionBit n) 4
+  unicode-came : {n : ℕ} → n ≤ 127 → CameIn (UnicodeBit n) 0
+  code-page-came : {n : ℕ} → n ≤ 63 → CameIn (CodePageBit n) 1
+  rights-came : CameIn Rights 0
+  style-came : CameIn StylePosition 0
+  optical-came : CameIn OpticalSizes 5
+
+-- the three questions that are not known, too, when w is above L
+pub data OnWhole : Question → Type 0 where
+  rights-whole : OnWhole Rights
+  style-whole : OnWhole StylePosition
+  optical-whole : OnWhole OpticalSizes
+
+-- "the question concerns something that came in after its level, or, for rights, style position and optical sizes, also when the table's version
+-- is above its level"
+pub data Later (L : ℕ) (b : List ℕ) (q : Question) : Type 0 where
+  after : {p : ℕ} → CameIn q p → L < p → Later L b q
+  newer : OnWhole q → L < version b → Later L b q
+
+-- ---- the values
+
+-- "installable (none of bits 1 to 3), restricted (1), preview (2), editable (3)"
+pub data RightsAre (fstype : ℕ) : ℕ → Type 0 where
+  none-set : bit 1 fstype ≡ 0 → bit 2 fstype ≡ 0 → bit 3 fstype ≡ 0 → RightsAre fstype 0
+  one-set : {k : ℕ} → 1 ≤ k → k ≤ 3 → bit k fstype ≡ 1 → RightsAre fstype k
+
+-- "every size (0 and 65535), from a size upwards (upper 65535), or between two sizes, in points"
+pub data SizesAre (lower upper : ℕ) : Sizes → Type 0 where
+  all : lower ≡ 0 → upper ≡ 65535 → SizesAre lower upper every
+  from-lower : (lower ≡ 0 → ⊥) → upper ≡ 65535 → SizesAre lower upper (upwards (points lower))
+  both : (upper ≡ 65535 → ⊥) → SizesAre lower upper (between (points lower) (points upper))
+
+-- the value that a table has for a question. "Unicode bit n (0 to 127) is bit n mod 32, counted from the low end, of range n div 32";
+-- the ranges are fields 26 to 29, the code pages 39 and 40
+pub data Says (b : List ℕ) : Question → Value → Type 0 where
+  field-says : {k : ℕ} → Says b (Field k) (integer (valueIn b (fieldOf k)))
+  selection-says : {n : ℕ} → Says b (SelectionBit n) (integer (pos (bit n (raw b 31))))
+  unicode-says : {n : ℕ} → Says b (UnicodeBit n) (integer (pos (bit (n % 32) (raw b (26 + n / 32)))))
+  code-page-says : {n : ℕ} → Says b (CodePageBit n) (integer (pos (bit (n % 32) (raw b (39 + n / 32)))))
+  rights-say : {k : ℕ} → RightsAre (raw b 4) k → Says b Rights (rights k)
+  style-says : Says b StylePosition (position (float (raw b 2)) (percentOf (raw b 3)))
+  optical-says : {s : Sizes} → SizesAre (raw b 46) (raw b 47) s → Says b OpticalSizes (sizes s)
+
+-- ---- the answer: "a question's own number (6, 7) comes after 1 and before 2; then 2, 3; the answer last"
+
+pub data Settled (L : ℕ) (b : List ℕ) (q : Question) : Outcome Said → Type 0 where
+  level-above : newest < L → Settled L b q (refused 1 none)
+  own-number : {n : ℕ} → L ≤ newest → OwnRefusal q n → Settled L b q (refused n none)
+  too-short : {p : ℕ} → L ≤ newest → CameIn q p → Short L b → Settled L b q (refused 2 none)
+  rule-broken : {p k : ℕ} → L ≤ newest → CameIn q p → (Short L b → ⊥) → BreaksFirst L b k → Settled L b q (refused 3 (some k))
+  is-not-known : {p : ℕ} → L ≤ newest → CameIn q p → Accepted L b → Later L b q → Settled L b q (answered not-known)
+  is-absent : {p : ℕ} → L ≤ newest → CameIn q p → Accepted L b → (Later L b q → ⊥) → version b < p → Settled L b q (answered absent)
+  is-value : {p : ℕ} {v : Value} → L ≤ newest → CameIn q p → Accepted L b → (Later L b q → ⊥) → p ≤ version b → Says b q v → Settled L b q (answered (value v))

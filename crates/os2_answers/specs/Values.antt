@@ -1,0 +1,19 @@
+-- What an answer can be, in document 01's words and numbers.
+use Prim.Native.Nat.{ℕ}
+use lib.IntN.{ℤ}
+use lib.Ieee.{Float}
+use Rattle.os2_style.specs.Style.{Sizes}
+
+-- a value: of a field, or of a bit, which is 0 or 1; rights by fsType's bit, 0 installable, 1 restricted, 2 preview, 3 editable; a style
+-- position's weight and width percent; optical sizes
+pub data Value : Type 0 where
+  integer : ℤ → Value
+  rights : ℕ → Value
+  position : Float → Float → Value
+  sizes : Sizes → Value
+
+-- "Each answer is one of three things: a value, absent, or not known."
+pub data Said : Type 0 where
+  value : Value → Said
+  absent : Said
+  not-known : Said

@@ -1,0 +1,244 @@
+// What answers a question on an 'OS/2' table that a level accepts: the three cases of an answer, then the value.
+// Document 01, "Questions on an accepted OS/2 table", and demand 3.
+// Relies on `os2_acceptance` for acceptance, `os2_fields` for what stands in the fields, and `os2_style` for the last three questions' values.
+ghost use mathlib.Core.Path.{_≡_};
+ghost use mathlib.Core.Bool.{false};
+ghost use mathlib.Core.Option.{none};
+ghost use Prim.Native.Nat.{_<_};
+ghost use lib.IntN.{pos};
+ghost use Rattle.level.specs.Levels.{numberOf};
+ghost use Rattle.os2_rules.specs.Bits.{bit};
+ghost use Rattle.os2_fields.specs.Catalogue.{fieldCount};
+ghost use Rattle.os2_fields.specs.Fields.{rawIn, version};
+ghost use Rattle.os2_acceptance.specs.Acceptance.{judged};
+ghost use Rattle.os2_answers.specs.Values.{integer};
+ghost use Rattle.os2_answers.specs.Questions.{since};
+ghost use Rattle.os2_answers.specs.Asking.{above, unknown, caseOf, saidCase, given};
+ghost use Rattle.os2_answers.specs.Reading.{Asked, BitIn};
+ghost use Rattle.os2_answers.specs.Replies.{saidAnswer, saidRightsAnswer, saidStyleAnswer, saidOpticalAnswer};
+use level::Level;
+use os2_fields::FSSELECTION_ENTRY;
+use os2_fields::FSTYPE_ENTRY;
+use os2_fields::Field;
+use os2_fields::LOWER_SIZE_ENTRY;
+use os2_fields::UPPER_SIZE_ENTRY;
+use os2_fields::WEIGHT_ENTRY;
+use os2_fields::WIDTH_ENTRY;
+use os2_style::EmbeddingRights;
+use os2_style::OpticalSizes;
+use os2_style::StylePosition;
+
+// The seven questions.
+pub enum Question {
+    // A field, 0 to 47; 6 above.
+    Field(u32),
+    // A bit of fsSelection, 0 to 9; 7 above.
+    SelectionBit(u32),
+    // A bit of the Unicode ranges, 0 to 127; 7 above.
+    UnicodeBit(u32),
+    // A bit of the code pages, 0 to 63; 7 above.
+    CodePageBit(u32),
+    Rights,
+    StylePosition,
+    OpticalSizes,
+}
+
+// Which of document 01's three things an answer is.
+pub enum Case {
+    // What is asked for came in after the level, or is asked of the whole of a table that did.
+    NotKnown,
+    // The table's version is below that of what is asked for.
+    Absent,
+    Value,
+}
+
+// The answer on a field or a bit. A bit is 0 or 1.
+pub enum Answer {
+    // The field's number with its sign, or the bit.
+    Value(i64),
+    Absent,
+    NotKnown,
+}
+
+// The answer on rights.
+pub enum RightsAnswer {
+    Value(EmbeddingRights),
+    // Never given: rights came in with version 0.
+    Absent,
+    NotKnown,
+}
+
+// The answer on the style position.
+pub enum StyleAnswer {
+    Value(StylePosition),
+    // Never given: the style position came in with version 0.
+    Absent,
+    NotKnown,
+}
+
+// The answer on optical sizes.
+pub enum OpticalAnswer {
+    Value(OpticalSizes),
+    Absent,
+    NotKnown,
+}
+
+// The version that bits 7 to 9 of fsSelection came in with.
+const LATER_BITS_SINCE: u32 = 4;
+
+// The case of what came in with version `since`, in a table of a version. `whole` is for the three questions that are not known of a newer table.
+pub fn case_of(since: u32, whole: bool, known: Level, version: u32) -> Case
+    ensures { λ r. ⌜ r ≡ caseOf since whole (numberOf known) version ⌝ }
+{
+    if unknown(since, whole, known.number(), version) {
+        return Case::NotKnown;
+    }
+    if above(since, version) {
+        return Case::Absent;
+    }
+    Case::Value
+}
+
+// Whether it is not known to the level of that number.
+fn unknown(since: u32, whole: bool, level: u32, version: u32) -> bool
+    ensures { λ r. ⌜ r ≡ unknown since whole level version ⌝ }
+{
+    if above(since, level) {
+        return true;
+    }
+    if whole {
+        return above(version, level);
+    }
+    false
+}
+
+// Whether a version is above a level, or above another version.
+fn above(version: u32, bound: u32) -> bool
+    ensures { λ r. ⌜ r ≡ above version bound ⌝ }
+{
+    bound < version
+}
+
+// A field of an accepted table.
+pub fn field_answer(table: &[u8], known: Level, k: usize) -> Answer
+    requires { ⌜ (k < fieldCount) × (judged (numberOf known) (now table) ≡ none) ⌝ }
+    ensures { λ r. ⌜ saidAnswer r ≡ given (numberOf known) (now (table .entry)) (Question.Field k) ⌝ }
+{
+    let f = os2_fields::entry(k);
+    match case_of(f.since as u32, false, known, os2_fields::version_of(table)) {
+        Case::NotKnown => Answer::NotKnown,
+        Case::Absent => Answer::Absent,
+        Case::Value => Answer::Value(os2_fields::value(table, f)),
+    }
+}
+
+// A bit of fsSelection of an accepted table.
+pub fn selection_answer(table: &[u8], known: Level, n: u32) -> Answer
+    requires { ⌜ Asked (numberOf known) (now table) (Question.SelectionBit n) ⌝ }
+    ensures { λ r. ⌜ saidAnswer r ≡ given (numberOf known) (now (table .entry)) (Question.SelectionBit n) ⌝ }
+{
+    bit_in(table, known, selection_since(n), FSSELECTION_ENTRY, n)
+}
+
+// A Unicode bit of an accepted table.
+pub fn unicode_answer(table: &[u8], known: Level, n: u32) -> Answer
+    requires { ⌜ Asked (numberOf known) (now table) (Question.UnicodeBit n) ⌝ }
+    ensures { λ r. ⌜ saidAnswer r ≡ given (numberOf known) (now (table .entry)) (Question.UnicodeBit n) ⌝ }
+{
+    let range = os2_fields::unicode_range(n / 32);
+    bit_in(table, known, range.since as u32, range, n % 32)
+}
+
+// A code page bit of an accepted table.
+pub fn code_page_answer(table: &[u8], known: Level, n: u32) -> Answer
+    requires { ⌜ Asked (numberOf known) (now table) (Question.CodePageBit n) ⌝ }
+    ensures { λ r. ⌜ saidAnswer r ≡ given (numberOf known) (now (table .entry)) (Question.CodePageBit n) ⌝ }
+{
+    let pages = os2_fields::code_pages(n / 32);
+    bit_in(table, known, pages.since as u32, pages, n % 32)
+}
+
+// A bit of a field of an accepted table, of what came in with version `since`.
+fn bit_in(table: &[u8], known: Level, since: u32, f: Field, n: u32) -> Answer
+    requires { ⌜ BitIn (numberOf known) (now table) since f n ⌝ }
+    ensures { λ r. ⌜ saidAnswer r ≡ saidCase (caseOf since false (numberOf known) (version (now (table .entry)))) (integer (pos (bit n (rawIn (now (table .entry)) f)))) ⌝ }
+{
+    match case_of(since, false, known, os2_fields::version_of(table)) {
+        Case::NotKnown => Answer::NotKnown,
+        Case::Absent => Answer::Absent,
+        Case::Value => {
+            let number = os2_fields::number(table, f);
+            Answer::Value(os2_fields::plain(os2_fields::bit_of(number, n)))
+        }
+    }
+}
+
+// The version that a bit of fsSelection came in with.
+fn selection_since(n: u32) -> u32
+    ensures { λ r. ⌜ r ≡ since (Question.SelectionBit n) ⌝ }
+{
+    if n < 7 {
+        FSSELECTION_ENTRY.since as u32
+    } else {
+        LATER_BITS_SINCE
+    }
+}
+
+// Rights of an accepted table.
+pub fn rights_answer(table: &[u8], known: Level) -> RightsAnswer
+    requires { ⌜ judged (numberOf known) (now table) ≡ none ⌝ }
+    ensures { λ r. ⌜ saidRightsAnswer r ≡ given (numberOf known) (now (table .entry)) Question.Rights ⌝ }
+{
+    match case_of(
+        FSTYPE_ENTRY.since as u32,
+        true,
+        known,
+        os2_fields::version_of(table),
+    ) {
+        Case::NotKnown => RightsAnswer::NotKnown,
+        Case::Absent => RightsAnswer::Absent,
+        Case::Value => {
+            RightsAnswer::Value(os2_style::rights_of(os2_fields::word(table, FSTYPE_ENTRY)))
+        }
+    }
+}
+
+// The style position of an accepted table.
+pub fn style_answer(table: &[u8], known: Level) -> StyleAnswer
+    requires { ⌜ judged (numberOf known) (now table) ≡ none ⌝ }
+    ensures { λ r. ⌜ saidStyleAnswer r ≡ given (numberOf known) (now (table .entry)) Question.StylePosition ⌝ }
+{
+    match case_of(
+        WEIGHT_ENTRY.since as u32,
+        true,
+        known,
+        os2_fields::version_of(table),
+    ) {
+        Case::NotKnown => StyleAnswer::NotKnown,
+        Case::Absent => StyleAnswer::Absent,
+        Case::Value => StyleAnswer::Value(os2_style::position_of(
+            os2_fields::word(table, WEIGHT_ENTRY),
+            os2_fields::word(table, WIDTH_ENTRY),
+        )),
+    }
+}
+
+// Optical sizes of an accepted table.
+pub fn optical_answer(table: &[u8], known: Level) -> OpticalAnswer
+    requires { ⌜ judged (numberOf known) (now table) ≡ none ⌝ }
+    ensures { λ r. ⌜ saidOpticalAnswer r ≡ given (numberOf known) (now (table .entry)) Question.OpticalSizes ⌝ }
+{
+    match case_of(
+        LOWER_SIZE_ENTRY.since as u32,
+        true,
+        known,
+        os2_fields::version_of(table),
+    ) {
+        Case::NotKnown => OpticalAnswer::NotKnown,
+        Case::Absent => OpticalAnswer::Absent,
+        Case::Value => OpticalAnswer::Value(os2_style::sizes_of(
+            os2_fields::word(table, LOWER_SIZE_ENTRY),
+            os2_fields::word(table, UPPER_SIZE_ENTRY),
+        )),
+    }
+}
