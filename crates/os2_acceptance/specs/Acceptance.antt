@@ -12,12 +12,17 @@ use Rattle.level.specs.Sizes.{tableSize}
 use Rattle.os2_rules.specs.Tests.{verdictOf}
 use Rattle.os2_fields.specs.Fields.{raw, version, valuesOf}
 
--- 2: "OS/2 under 2 bytes, or shorter than the size for the smaller of w and L"
+-- 2: "OS/2 under 2 bytes, or ..
 unfoldable pub underTwo : List ℕ → Bool
 underTwo b = ltb (length b) 2
 
+-- the size for the smaller of w and L
+abbrev pub sizeRead : (w L : ℕ) → ℕ
+sizeRead w L = tableSize (min w L)
+
+-- .. shorter than the size for the smaller of w and L"
 unfoldable pub underSize : ℕ → List ℕ → Bool
-underSize L b = ltb (length b) (tableSize (min (version b) L))
+underSize L b = ltb (length b) (sizeRead (version b) L)
 
 unfoldable pub short : ℕ → List ℕ → Bool
 short L b = underTwo b || underSize L b

@@ -4,11 +4,9 @@
 ghost use mathlib.Core.Path.{_≡_};
 ghost use mathlib.Core.Bool.{true};
 ghost use mathlib.Core.Option.{none};
-ghost use Prim.Native.Nat.{min};
 ghost use Rattle.outcomes.specs.Outcomes.{refusalOf};
 ghost use Rattle.level.specs.Levels.{numberOf};
-ghost use Rattle.level.specs.Sizes.{tableSize};
-ghost use Rattle.os2_acceptance.specs.Acceptance.{judged};
+ghost use Rattle.os2_acceptance.specs.Acceptance.{sizeRead, judged};
 ghost use Rattle.os2_acceptance.specs.Replies.{saidRefusal, saidFound};
 use level::Level;
 use os2_rules::Verdict;
@@ -92,7 +90,7 @@ pub fn judge(table: &[u8], known: Level) -> Checked
 
 // The size for the smaller of a version and a level.
 fn size_read(version: u32, known: Level) -> usize
-    ensures { λ r. ⌜ r ≡ tableSize (min version (numberOf known)) ⌝ }
+    ensures { λ r. ⌜ r ≡ sizeRead version (numberOf known) ⌝ }
 {
     if version < known.number() {
         level::version_size(version)

@@ -7,6 +7,7 @@ use mathlib.Core.Option.{Option, none, some}
 use mathlib.Core.List.{List}
 use native.Mathlib.Nat.{le-trans}
 use native.Mathlib.Omega.{arith}
+use lib.ListN.{length}
 use Rattle.outcomes.specs.Firsts.{when, _then_}
 use Rattle.outcomes.specs.Outcomes.{Refusal, Outcome, refused, answered, accepted, unless}
 use Rattle.level.specs.Levels.{newest}
@@ -23,7 +24,7 @@ use Rattle.os2_answers.specs.declared.Question.the-variants.{Rights}
 use Rattle.os2_answers.specs.Values.{Said, value, not-known}
 use Rattle.os2_answers.specs.Questions.{ownRefusal, since, onWhole}
 use Rattle.os2_answers.specs.Asking.{valueOf, given, ask}
-use Rattle.os2_answers.specs.Settled.{Later, after, newer}
+use Rattle.os2_answers.specs.Settled.{CameIn, rights-came, Later, after, newer}
 use Rattle.os2_answers.specs.Demands.{Agreement, Demand3, SameOrNewer}
 use Rattle.os2_answers.specs.Examples.{first}
 use Rattle.os2_answers.proofs.Cases.{known-exactly, given-down, given-unknown, given-not-known, given-value, not-above}
@@ -108,14 +109,16 @@ module _ (check : ℕ → List ℕ → Outcome (Unit {0})) (read : ℕ → List 
   accepts : check newest (first 78) ≡ accepted
   accepts = ours .higher-exactly .1 (first-accepted newest (omega arith))
 
-  -- none refuses every table
-  pub not-refusing-all : ((L : ℕ) (b : List ℕ) → check L b ≡ accepted → ⊥) → ⊥
-  not-refusing-all all = all newest (first 78) accepts
+  -- none refuses at levels 0 to 5 every table of at most n bytes, for any n from 78 on, whatever it does with longer ones
+  pub not-refusing-all : (n : ℕ) → 78 ≤ n → ((L : ℕ) (b : List ℕ) → L ≤ newest → length b ≤ n → check L b ≡ accepted → ⊥) → ⊥
+  unfolding stored fieldOf catalogue
+  not-refusing-all n h all = all newest (first 78) (omega arith) h accepts
 
-  -- none answers "not known" to everything
-  pub not-all-unknown : ((L : ℕ) (b : List ℕ) (q : Question) → read L b q ≡ answered not-known) → ⊥
+  -- none answers "not known" at levels 0 to 5, on accepted bytes, to every question on something that came in, whatever it does elsewhere
+  pub not-all-unknown : ((L : ℕ) (b : List ℕ) (q : Question) (p : ℕ) → L ≤ newest → Accepted L b → CameIn q p → read L b q ≡ answered not-known) → ⊥
   unfolding since
-  not-all-unknown all = never (ours .not-known-exactly accepts .0 (all newest (first 78) Rights))
+  not-all-unknown all =
+      never (ours .not-known-exactly accepts .0 (all newest (first 78) Rights 0 (omega arith) (first-accepted newest (omega arith)) rights-came))
     where
       never : Later newest (first 78) Rights → ⊥
       never (after c h) = omega (arith, came-since c .1)

@@ -3,7 +3,7 @@
 use Prim.Native.Nat.{ℕ, _<_, _≤_}
 use mathlib.Core.Path.{_≡_, refl, ap}
 use mathlib.Core.Logic.{_⊎_, inl, inr, ⊎-elim, _↔_, Iff·rfl, Iff·trans, Iff·and}
-use mathlib.Core.Bool.{Bool, true, false, cond, _&&_}
+use mathlib.Core.Bool.{Bool, true, false, _&&_}
 use mathlib.Core.List.{List}
 use native.Mathlib.Omega.{arith}
 use borrow.Author.Needs.{needs}
@@ -51,12 +51,12 @@ module _ (p : ℕ) (whole : Bool) (L w : ℕ) where
 
   pub held : caseOf p whole L w ≡ Case·.Value → Held
   unfolding caseOf
-  held = at (unknown p whole L w) refl (above p w) refl
+  held f = at (unknown p whole L w) refl (above p w) refl
     where
-      at : (s : Bool) → unknown p whole L w ≡ s → (t : Bool) → above p w ≡ t → cond s Case·.NotKnown (cond t Case·.Absent Case·.Value) ≡ Case·.Value → Held
-      at true d t e f = let z : _≡_ {A = ℕ} 0 1 = cc in absurd (omega arith)
-      at false d true e f = let z : _≡_ {A = ℕ} 0 1 = cc in absurd (omega arith)
-      at false d false e f = let k = known-exactly .0 d in record { known = k .0; there = not-above p w .0 e; old = k .1 }
+      at : (s : Bool) → unknown p whole L w ≡ s → (t : Bool) → above p w ≡ t → Held
+      at true d t e = let g = rw d at f in let z : _≡_ {A = ℕ} 0 1 = cc in absurd (omega arith)
+      at false d true e = let g = rw (d, e) at f in let z : _≡_ {A = ℕ} 0 1 = cc in absurd (omega arith)
+      at false d false e = let k = known-exactly .0 d in record { known = k .0; there = not-above p w .0 e; old = k .1 }
 
 -- ---- the answer
 
@@ -84,12 +84,12 @@ module _ (L : ℕ) (b : List ℕ) (q : Question) where
   -- "not known" is said of nothing else
   pub given-unknown : given L b q ≡ not-known → unknownTo L b q ≡ true
   unfolding given caseOf
-  given-unknown = at (unknownTo L b q) (above (since q) (version b))
+  given-unknown f = at (unknownTo L b q) refl (above (since q) (version b)) refl
     where
-      at : (s t : Bool) → saidCase (cond s Case·.NotKnown (cond t Case·.Absent Case·.Value)) (valueOf b q) ≡ not-known → s ≡ true
-      at true t e = refl
-      at false true e = let z : _≡_ {A = ℕ} 0 1 = cc in absurd (omega arith)
-      at false false e = let z : _≡_ {A = ℕ} 0 1 = cc in absurd (omega arith)
+      at : (s : Bool) → unknownTo L b q ≡ s → (t : Bool) → above (since q) (version b) ≡ t → unknownTo L b q ≡ true
+      at true d t e = d
+      at false d true e = let g = rw (d, e) at f in let z : _≡_ {A = ℕ} 0 1 = cc in absurd (omega arith)
+      at false d false e = let g = rw (d, e) at f in let z : _≡_ {A = ℕ} 0 1 = cc in absurd (omega arith)
 
 module _ {L H : ℕ} (h : L ≤ H) (b : List ℕ) (q : Question) where
   -- what is not known to a level is not known to a lower one

@@ -5,3 +5,4 @@ pub mod Trimming
 pub mod RoundTrips
 pub mod Refuting
 pub mod Saying
+pub mod Words

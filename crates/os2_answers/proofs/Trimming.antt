@@ -27,7 +27,7 @@ use Rattle.os2_answers.proofs.Settling.{under, ask-above, ask-own, ask-
 
 asked-same : (b : List ℕ) (v : ℕ) (q : Question) → ownRefusal q ≡ none → since q ≤ v → valueOf (take (tableSize v) b) q ≡ valueOf b q
 unfolding valueOf since ownRefusal fieldOf catalogue
-asked-same b v (Field k) r s = rw (value-same b v k (omega (arith, under 47 k (bare 6) .0 r)) s)
+asked-same b v (Field k) r s = simp (value-same b v k (omega (arith, under 47 k (bare 6) .0 r)) s)
 asked-same b v (SelectionBit n) r s = rw (raw-same b v 31 (omega arith) zero-le)
 asked-same b v (UnicodeBit n) r s =
     let h : n / 32 < 4 = omega (arith, under 127 n (bare 7) .0 r) in

@@ -10,19 +10,19 @@ use Rattle.outcomes.specs.Outcomes.{Refusal, bare, Outcome, answered, unless}
 use Rattle.level.specs.Levels.{newest}
 use Rattle.os2_rules.specs.Bits.{bit}
 use Rattle.os2_fields.specs.Catalogue.{fieldOf}
-use Rattle.os2_fields.specs.Fields.{valueIn, raw, version}
+use Rattle.os2_fields.specs.Fields.{raw, version}
 use Rattle.os2_style.specs.Style.{rightsOf, float, percentOf, sizesOf}
 use Rattle.os2_acceptance.specs.Acceptance.{judged}
 use Rattle.os2_answers.specs.declared.Question.{Question}
 use Rattle.os2_answers.specs.declared.Question.the-variants.{Field, SelectionBit, UnicodeBit, CodePageBit, Rights, StylePosition, OpticalSizes}
 use Rattle.os2_answers.specs.declared.Case.{Case}
 use Rattle.os2_answers.specs.declared.Case.the-variants as Case·
-use Rattle.os2_answers.specs.Values.{Value, integer, rights, position, sizes, Said, value, absent, not-known}
+use Rattle.os2_answers.specs.Values.{Value, integer, rights, position, sizes, Said, value, absent, not-known, fieldValue}
 use Rattle.os2_answers.specs.Questions.{ownRefusal, since, onWhole}
 
 -- the value asked for. Unicode ranges are fields 26 to 29, code pages 39 and 40
 unfoldable pub valueOf : List ℕ → Question → Value
-valueOf b (Field k) = integer (valueIn b (fieldOf k))
+valueOf b (Field k) = integer (fieldValue b (fieldOf k))
 valueOf b (SelectionBit n) = integer (pos (bit n (raw b 31)))
 valueOf b (UnicodeBit n) = integer (pos (bit (n % 32) (raw b (26 + n / 32))))
 valueOf b (CodePageBit n) = integer (pos (bit (n % 32) (raw b (39 + n / 32))))

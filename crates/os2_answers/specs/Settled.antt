@@ -8,12 +8,12 @@ use Rattle.outcomes.specs.Outcomes.{Outcome, refused, answered}
 use Rattle.level.specs.Levels.{newest}
 use Rattle.os2_rules.specs.Bits.{bit}
 use Rattle.os2_fields.specs.Catalogue.{fieldOf}
-use Rattle.os2_fields.specs.Fields.{valueIn, raw, version}
+use Rattle.os2_fields.specs.Fields.{raw, version}
 use Rattle.os2_style.specs.Style.{Sizes, every, upwards, between, float, percentOf, points}
 use Rattle.os2_acceptance.specs.Settled.{Short, BreaksFirst, Accepted}
 use Rattle.os2_answers.specs.declared.Question.{Question}
 use Rattle.os2_answers.specs.declared.Question.the-variants.{Field, SelectionBit, UnicodeBit, CodePageBit, Rights, StylePosition, OpticalSizes}
-use Rattle.os2_answers.specs.Values.{Value, integer, rights, position, sizes, Said, value, absent, not-known}
+use Rattle.os2_answers.specs.Values.{Value, integer, rights, position, sizes, Said, value, absent, not-known, fieldValue}
 
 -- ---- the questions
 
@@ -63,7 +63,7 @@ pub data SizesAre (lower upper : ℕ) : Sizes → Type 0 where
 -- the value that a table has for a question. "Unicode bit n (0 to 127) is bit n mod 32, counted from the low end, of range n div 32";
 -- the ranges are fields 26 to 29, the code pages 39 and 40
 pub data Says (b : List ℕ) : Question → Value → Type 0 where
-  field-says : {k : ℕ} → Says b (Field k) (integer (valueIn b (fieldOf k)))
+  field-says : {k : ℕ} → Says b (Field k) (integer (fieldValue b (fieldOf k)))
   selection-says : {n : ℕ} → Says b (SelectionBit n) (integer (pos (bit n (raw b 31))))
   unicode-says : {n : ℕ} → Says b (UnicodeBit n) (integer (pos (bit (n % 32) (raw b (26 + n / 32)))))
   code-page-says : {n : ℕ} → Says b (CodePageBit n) (integer (pos (bit (n % 32) (raw b (39 + n / 32)))))

@@ -10,8 +10,9 @@ ghost use Rattle.level.specs.Levels.{numberOf};
 ghost use Rattle.os2_rules.specs.Bits.{bit};
 ghost use Rattle.os2_fields.specs.Catalogue.{fieldCount};
 ghost use Rattle.os2_fields.specs.Fields.{rawIn, version};
+ghost use Rattle.os2_fields.specs.Reading.{Lies};
 ghost use Rattle.os2_acceptance.specs.Acceptance.{judged};
-ghost use Rattle.os2_answers.specs.Values.{integer};
+ghost use Rattle.os2_answers.specs.Values.{integer, fieldValue};
 ghost use Rattle.os2_answers.specs.Questions.{since};
 ghost use Rattle.os2_answers.specs.Asking.{above, unknown, caseOf, saidCase, given};
 ghost use Rattle.os2_answers.specs.Reading.{Asked, BitIn};
@@ -86,37 +87,37 @@ pub enum OpticalAnswer {
 // The version that bits 7 to 9 of fsSelection came in with.
 const LATER_BITS_SINCE: u32 = 4;
 
-// The case of what came in with version `since`, in a table of a version. `whole` is for the three questions that are not known of a newer table.
-pub fn case_of(since: u32, whole: bool, known: Level, version: u32) -> Case
-    ensures { λ r. ⌜ r ≡ caseOf since whole (numberOf known) version ⌝ }
+// The case of what came in with version p, in a table of version w. `whole` is for the three questions that are not known of a newer table.
+pub fn case_of(p: u32, whole: bool, known: Level, w: u32) -> Case
+    ensures { λ r. ⌜ r ≡ caseOf p whole (numberOf known) w ⌝ }
 {
-    if unknown(since, whole, known.number(), version) {
+    if unknown(p, whole, known.number(), w) {
         return Case::NotKnown;
     }
-    if above(since, version) {
+    if above(p, w) {
         return Case::Absent;
     }
     Case::Value
 }
 
 // Whether it is not known to the level of that number.
-fn unknown(since: u32, whole: bool, level: u32, version: u32) -> bool
-    ensures { λ r. ⌜ r ≡ unknown since whole level version ⌝ }
+fn unknown(p: u32, whole: bool, level: u32, w: u32) -> bool
+    ensures { λ r. ⌜ r ≡ unknown p whole level w ⌝ }
 {
-    if above(since, level) {
+    if above(p, level) {
         return true;
     }
     if whole {
-        return above(version, level);
+        return above(w, level);
     }
     false
 }
 
 // Whether a version is above a level, or above another version.
-fn above(version: u32, bound: u32) -> bool
-    ensures { λ r. ⌜ r ≡ above version bound ⌝ }
+fn above(p: u32, bound: u32) -> bool
+    ensures { λ r. ⌜ r ≡ above p bound ⌝ }
 {
-    bound < version
+    bound < p
 }
 
 // A field of an accepted table.
@@ -128,8 +129,16 @@ pub fn field_answer(table: &[u8], known: Level, k: usize) -> Answer
     match case_of(f.since as u32, false, known, os2_fields::version_of(table)) {
         Case::NotKnown => Answer::NotKnown,
         Case::Absent => Answer::Absent,
-        Case::Value => Answer::Value(os2_fields::value(table, f)),
+        Case::Value => Answer::Value(field_value(table, f)),
     }
+}
+
+// The whole number that stands in a field.
+fn field_value(table: &[u8], f: Field) -> i64
+    requires { ⌜ Lies (now table) f ⌝ }
+    ensures { λ r. ⌜ r ≡ fieldValue (now (table .entry)) f ⌝ }
+{
+    os2_fields::value(table, f)
 }
 
 // A bit of fsSelection of an accepted table.
@@ -158,12 +167,12 @@ pub fn code_page_answer(table: &[u8], known: Level, n: u32) -> Answer
     bit_in(table, known, pages.since as u32, pages, n % 32)
 }
 
-// A bit of a field of an accepted table, of what came in with version `since`.
-fn bit_in(table: &[u8], known: Level, since: u32, f: Field, n: u32) -> Answer
-    requires { ⌜ BitIn (numberOf known) (now table) since f n ⌝ }
-    ensures { λ r. ⌜ saidAnswer r ≡ saidCase (caseOf since false (numberOf known) (version (now (table .entry)))) (integer (pos (bit n (rawIn (now (table .entry)) f)))) ⌝ }
+// A bit of a field of an accepted table, of what came in with version p.
+fn bit_in(table: &[u8], known: Level, p: u32, f: Field, n: u32) -> Answer
+    requires { ⌜ BitIn (numberOf known) (now table) p f n ⌝ }
+    ensures { λ r. ⌜ saidAnswer r ≡ saidCase (caseOf p false (numberOf known) (version (now (table .entry)))) (integer (pos (bit n (rawIn (now (table .entry)) f)))) ⌝ }
 {
-    match case_of(since, false, known, os2_fields::version_of(table)) {
+    match case_of(p, false, known, os2_fields::version_of(table)) {
         Case::NotKnown => Answer::NotKnown,
         Case::Absent => Answer::Absent,
         Case::Value => {

@@ -91,9 +91,9 @@ success xs r n e =
     let u = unless-answered (unwritten xs r) (answered (tableSize (versionFor xs))) n .0 e in
     let a = passed (noVersion (numberFor xs 0)) (bare 4) _ .0 (u .0) in
     let b = passed (noRoom (versionFor xs) r) (bare 5) _ .0 (a .1) in
-    let c = then-none (firstOf (misfitAt (versionFor xs) xs) fieldCount) (verdictOf (valuesOf (codeFor xs))) .0 (b .1) in
+    let c = then-none _ _ .0 (b .1) in
     let s : answered (tableSize (versionFor xs)) ≡ answered n = u .1 in
-    record { versioned = a .0; long = ltb-false _ _ (b .0); fitting = c .0; ruled = c .1; size = cc }
+    record { versioned = a .0; long = ltb-false _ _ (b .0); fitting = search c; ruled = search c; size = cc }
 
 -- the room holds the fields where the writer answers a size, and is what it was where it refuses
 pub room-written : (xs : List ℤ) (r : List ℕ) (n : ℕ) → write xs (length r) ≡ answered n → roomAfter xs r ≡ image (versionFor xs) xs r fieldCount

@@ -2,3 +2,4 @@ pub mod Signs
 pub mod Steps
 pub mod Rewriting
 pub mod Numbers
+pub mod Saying

@@ -3,6 +3,7 @@ use Prim.Native.Nat.{ℕ}
 use mathlib.Core.Option.{some}
 use Rattle.outcomes.specs.Outcomes.{Refusal, bare, carrying, Outcome, refused, answered}
 use Rattle.os2_acceptance.specs.Replies as Reader·
+use Rattle.os2_writer.specs.Rewriting.{Side, reader, writer}
 use Rattle.os2_writer.specs.declared.WriteRefusal.{WriteRefusal}
 use Rattle.os2_writer.specs.declared.WriteRefusal.the-variants.{NoVersion, NoRoom, DoesNotFit, RuleBroken}
 use Rattle.os2_writer.specs.declared.Written.{Written}
@@ -20,11 +21,19 @@ saidRefusal (RuleBroken n) = carrying 3 n
 abbrev refusedBy : Refusal → Outcome ℕ
 refusedBy r = refused (r .number) (r .carried)
 
+-- what came of writing
 abbrev pub saidWritten : Written → Outcome ℕ
 saidWritten (Written·.Size n) = answered n
 saidWritten (Written·.Refused r) = refusedBy (saidRefusal r)
 
+-- what came of rewriting: a size, the reader's refusal or the writer's
 abbrev pub saidRewritten : Rewritten → Outcome ℕ
 saidRewritten (Rewritten·.Size n) = answered n
 saidRewritten (Rewritten·.Unread r) = refusedBy (Reader·.saidRefusal r)
 saidRewritten (Rewritten·.Unwritten r) = refusedBy (saidRefusal r)
+
+-- and which side says it
+abbrev pub sideOf : Rewritten → Side
+sideOf (Rewritten·.Size n) = writer
+sideOf (Rewritten·.Unread r) = reader
+sideOf (Rewritten·.Unwritten r) = writer

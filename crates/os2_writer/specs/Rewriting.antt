@@ -1,7 +1,7 @@
 -- What rewriting a table gives: "One of version 0 to 5 that level 5 accepts, rewritten, is the same bytes up to its version's size."
 use Prim.Native.Nat.{ℕ}
 use mathlib.Core.Path.{_≡_}
-use mathlib.Core.Option.{Option}
+use mathlib.Core.Option.{Option, none, some}
 use mathlib.Core.List.{List, _++_}
 use lib.Dec.{ltb}
 use lib.ListN.{length, take, drop}
@@ -24,6 +24,19 @@ unrewritten b r =
 
 unfoldable pub rewritten : List ℕ → ℕ → Outcome ℕ
 rewritten b r = unless (unrewritten b r) (answered (tableSize (version b)))
+
+-- which of the two says what is said
+pub data Side : Type 0 where
+  reader : Side
+  writer : Side
+
+-- the reader where it refuses the table, else the writer
+abbrev pub sideWith : Option Refusal → Side
+sideWith (some r) = reader
+sideWith none = writer
+
+abbrev pub sideFor : List ℕ → Side
+sideFor b = sideWith (judged newest b)
 
 -- the room: the table's own bytes up to its version's size, and then what was there; what it held, after a refusal
 unfoldable pub roomRewritten : List ℕ → List ℕ → List ℕ

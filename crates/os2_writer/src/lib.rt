@@ -13,8 +13,8 @@ ghost use Rattle.os2_fields.specs.Fields.{opticalSize, valuesOf};
 ghost use Rattle.os2_acceptance.specs.Acceptance.{judged};
 ghost use Rattle.os2_store.specs.Writing.{codeFor, versionFor, noVersion, write, roomAfter};
 ghost use Rattle.os2_store.specs.Storing.{Fitting};
-ghost use Rattle.os2_writer.specs.Replies.{saidRefusal, saidWritten, saidRewritten};
-ghost use Rattle.os2_writer.specs.Rewriting.{Reading, rewritten, roomRewritten};
+ghost use Rattle.os2_writer.specs.Replies.{saidRefusal, saidWritten, saidRewritten, sideOf};
+ghost use Rattle.os2_writer.specs.Rewriting.{Reading, rewritten, roomRewritten, sideFor};
 ghost use Rattle.os2_writer.specs.Values.{WordFor};
 use level::Level;
 use os2_acceptance::Checked;
@@ -87,9 +87,10 @@ pub fn write(numbers: [i64; FIELD_COUNT], room: &mut [u8]) -> Written
     }
 }
 
-// Reads the fields of a table's version at level 5 and writes them.
+// Reads the fields of a table's version at level 5 and writes them. It says which of the two refuses.
 pub fn rewrite(table: &[u8], room: &mut [u8]) -> Rewritten
-    ensures { λ r. ⌜ (saidRewritten r ≡ rewritten (now (table .entry)) (length (now (room .entry)))) × (now (room .exit) ≡ roomRewritten (now (table .entry)) (now (room .entry))) ⌝ }
+    ensures { λ r. ⌜ (saidRewritten r ≡ rewritten (now (table .entry)) (length (now (room .entry)))) ×
+        (now (room .exit) ≡ roomRewritten (now (table .entry)) (now (room .entry))) × (sideOf r ≡ sideFor (now (table .entry))) ⌝ }
 {
     match os2_acceptance::judge(table, Level::NEWEST) {
         Checked::Refused(why) => Rewritten::Unread(why),

@@ -18,7 +18,7 @@ use Rattle.os2_answers.proofs.bit_in.Tie as tie
 -- the case that is found
 found : (c : tie.After-case-of) →
     let args = c .before .before .before .args in
-    c .case-of .result ≡ caseOf (args .since) false (numberOf (args .known)) (version (args .table .now))
+    c .case-of .result ≡ caseOf (args .p) false (numberOf (args .known)) (version (args .table .now))
 found c = rw (c .before .version-of .ensures) at (c .case-of .ensures)
 
 -- the answer in it

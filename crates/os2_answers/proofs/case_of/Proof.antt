@@ -9,7 +9,7 @@ use Rattle.os2_answers.proofs.case_of.Statement.{statement}
 use Rattle.os2_answers.proofs.case_of.Tie as tie
 
 -- what the level does not know
-known : (c : tie.Else1) → let args = c .before .before .before .args in unknown (args .since) (args .whole) (numberOf (args .known)) (args .version) ≡ false
+known : (c : tie.Else1) → let args = c .before .before .before .args in unknown (args .p) (args .whole) (numberOf (args .known)) (args .w) ≡ false
 known c = rw (c .before .before .number .ensures) at (sym (c .before .unknown .ensures) ∙ c .if1 .left)
 
 returns : tie.Need-returns

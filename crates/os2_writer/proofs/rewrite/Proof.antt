@@ -11,7 +11,7 @@ use Rattle.level.specs.Levels.{newest}
 use Rattle.os2_acceptance.specs.Acceptance.{judged}
 use Rattle.os2_acceptance.specs.Replies.{saidFound}
 use Rattle.os2_writer.specs.Replies.{saidWritten}
-use Rattle.os2_writer.specs.Rewriting.{rewritten, roomRewritten}
+use Rattle.os2_writer.specs.Rewriting.{rewritten, roomRewritten, writer, sideWith, sideFor}
 use Rattle.os2_writer.proofs.Rewriting.{unread, rewrote}
 use borrow.Author.Needs.{needs}
 use Rattle.os2_writer.proofs.rewrite.Statement.{statement}
@@ -33,17 +33,28 @@ both c =
     let r = rewrote (table c) (room c) (told (c .before .before .before)) bytes (c .before .before .read .result) (c .before .before .read .ensures) in
     (c .write .ensures .0 ∙ r .0, c .write .ensures .1 ∙ r .1)
 
+-- the writer says it
+by-writer : (c : tie.After-write) → writer ≡ sideFor (table c)
+by-writer c = ap sideWith (sym (told (c .before .before .before)))
+
 read-requires : tie.Need-read-requires
 read-requires c κs = told c
 
 returns : tie.Need-returns
-returns c = unread _ _ _ (sym (ap saidFound (c .before .why .given .1)) ∙ c .before .before .before .judge .ensures)
+returns c =
+    let e = sym (ap saidFound (c .before .why .given .1)) ∙ c .before .before .before .judge .ensures in
+    let u = unread _ _ _ e in
+    (u .0, u .1, ap sideWith e)
 
 returns-2 : tie.Need-returns-2
-returns-2 c = let p = both (c .before .before .before .before .before) in (sym (ap saidWritten (c .before .size .given .1)) ∙ p .0, p .1)
+returns-2 c =
+    let p = both (c .before .before .before .before .before) in
+    (sym (ap saidWritten (c .before .size .given .1)) ∙ p .0, p .1, by-writer (c .before .before .before .before .before))
 
 returns-3 : tie.Need-returns-3
-returns-3 c = let p = both (c .before .before .before .before .before) in (sym (ap saidWritten (c .before .why2 .given .1)) ∙ p .0, p .1)
+returns-3 c =
+    let p = both (c .before .before .before .before .before) in
+    (sym (ap saidWritten (c .before .why2 .given .1)) ∙ p .0, p .1, by-writer (c .before .before .before .before .before))
 
 pub rewrite-spec : {M : Type 1} → statement M
 rewrite-spec =
