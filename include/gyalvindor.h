@@ -247,8 +247,8 @@ typedef struct gv_written {
 } gv_written;
 
 /* Writes the table of 48 numbers, of which number 0 is the version, at the start of the room; no later byte is touched.
-   Numbers for fields that the version lacks are not looked at. Refusals 4, 5, 8, 3, in this order. A version needs 78 bytes
-   (0), 86 (1), 96 (2, 3, 4) or 100 (5). */
+   Numbers for fields that the version lacks are not looked at. Numbers and room must not overlap. Refusals 4, 5, 8, 3, in this
+   order. A version needs 78 bytes (0), 86 (1), 96 (2, 3, 4) or 100 (5). */
 gv_written gv_os2_write(const int64_t numbers[GV_FIELDS], uint8_t *room, size_t length);
 
 /* Reads a table at level 5 and writes its fields: the same bytes, up to its version's size. Table and room must not overlap.

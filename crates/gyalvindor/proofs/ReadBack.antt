@@ -24,7 +24,7 @@ use Rattle.name_lookup.specs.Answers.{lookupOf}
 use Rattle.name_answers.specs.Forms.{otherAt, illFormed, differAt, differ}
 use Rattle.name_answers.specs.Names.{fromStrings, fromBoth, postscriptOf}
 use Rattle.name_answers.specs.Versions.{fromRecords, versionOf}
-use Rattle.version_text.specs.Versions.{Figures, numberAt, foundOr25, versionIn}
+use Rattle.version_text.specs.Versions.{Figures, firstNumber, versionIn}
 use Rattle.os2_rules.specs.declared.Values.{Values}
 use Rattle.os2_rules.specs.Tests.{verdictOf}
 use Rattle.os2_fields.specs.Fields.{raw, version, valuesOf}
@@ -187,13 +187,13 @@ unfolding versionWords
 version-back r o p h = back-unless versionWords (λ w. w .refusal) figuresIn (λ n c. refl) r o p h
 
 pub version-said : (t : List ℕ) → versionSaid (versionWords (versionOf t)) ≡ versionOf t
-unfolding versionOf fromRecords versionIn versionWords
+unfolding versionOf fromRecords versionIn foundOr versionWords
 version-said t = version-back (faults t) _ (faults-numbered t) (at (recordWith t (keyFrom 3 1 1033 5)) (recordWith t (keyFrom 1 0 0 5)))
   where
     number : (wide : Bool) (bytes : List ℕ) → versionSaid (versionWords (versionIn wide bytes)) ≡ versionIn wide bytes
-    number wide bytes = version-back _ _ (one _ _ refl) (found (firstOf (numberAt (characters wide bytes)) (length (characters wide bytes))))
+    number wide bytes = version-back _ _ (one _ _ refl) (found (firstNumber (characters wide bytes)))
       where
-        found : (o : Option Figures) → versionSaid (versionWords (foundOr25 o)) ≡ foundOr25 o
+        found : (q : Option Figures) → let o = foundOr (bare 25) q answered in versionSaid (versionWords o) ≡ o
         found none = refl
         found (some f) = refl
 

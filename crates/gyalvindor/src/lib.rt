@@ -63,13 +63,13 @@ pub struct GvText {
 }
 
 impl GvText {
-    fn new(refusal: GvRefusal, start: usize, length: usize) -> GvText
-        ensures { λ r. ⌜ r ≡ record { refusal = refusal; start = start; length = length } ⌝ }
+    fn new(refusal: GvRefusal, start: usize, len: usize) -> GvText
+        ensures { λ r. ⌜ r ≡ record { refusal = refusal; start = start; length = len } ⌝ }
     {
         GvText {
             refusal,
             start,
-            length,
+            length: len,
         }
     }
 }
@@ -112,13 +112,13 @@ pub struct GvNumber {
 }
 
 impl GvNumber {
-    fn new(refusal: GvRefusal, kind: u32, value: i64) -> GvNumber
-        ensures { λ r. ⌜ r ≡ record { refusal = refusal; kind = kind; value = value } ⌝ }
+    fn new(refusal: GvRefusal, kind: u32, number: i64) -> GvNumber
+        ensures { λ r. ⌜ r ≡ record { refusal = refusal; kind = kind; value = number } ⌝ }
     {
         GvNumber {
             refusal,
             kind,
-            value,
+            value: number,
         }
     }
 }
@@ -185,13 +185,13 @@ pub struct GvOptical {
 }
 
 impl GvOptical {
-    fn new(refusal: GvRefusal, kind: u32, sizes: u32, lower: f32, upper: f32) -> GvOptical
-        ensures { λ r. ⌜ r ≡ record { refusal = refusal; kind = kind; sizes = sizes; lower = lower; upper = upper } ⌝ }
+    fn new(refusal: GvRefusal, kind: u32, which: u32, lower: f32, upper: f32) -> GvOptical
+        ensures { λ r. ⌜ r ≡ record { refusal = refusal; kind = kind; sizes = which; lower = lower; upper = upper } ⌝ }
     {
         GvOptical {
             refusal,
             kind,
-            sizes,
+            sizes: which,
             lower,
             upper,
         }
@@ -395,10 +395,10 @@ fn version_words(answer: VersionAnswer) -> GvVersion
 
 // ---- 'OS/2' answers in words
 
-fn checked_words(checked: Checked) -> GvRefusal
-    ensures { λ r. ⌜ r ≡ outcomeRefusal (acceptance.saidCheck checked) ⌝ }
+fn checked_words(verdict: Checked) -> GvRefusal
+    ensures { λ r. ⌜ r ≡ outcomeRefusal (acceptance.saidCheck verdict) ⌝ }
 {
-    match checked {
+    match verdict {
         Checked::Accepted => NO_REFUSAL,
         Checked::Refused(why) => refusal_words(why.told()),
     }

@@ -21,7 +21,7 @@ use Rattle.name_layout.proofs.Keys.{key-small, packed-order, key-language, text
 use Rattle.name.specs.declared.Refusal as code
 use Rattle.name.specs.declared.Verdict.{Verdict}
 use Rattle.name.specs.declared.Verdict.the-variants.{Accepted, Refused}
-use Rattle.name.specs.Refusals.{toldOf, saidCheck}
+use Rattle.name.specs.Refusals.{saidRefusal, saidCheck}
 use Rattle.name.specs.Acceptance.{stringPasses, languageRefused, notAbove, layoutFault, recordFault, tagFault, faults, checkOf}
 use Rattle.name.specs.Refusing.{Laid}
 use Rattle.name.specs.Steps.{Framed}
@@ -127,7 +127,7 @@ module _ (t : List ℕ) where
     unfolding unless
     accepted-none e = unless-answered (faults t) accepted tt .0 (sym said ∙ ap saidCheck e) .0
 
-    pub refused-some : {r : code.Refusal} → v ≡ Refused r → faults t ≡ some (toldOf r)
+    pub refused-some : {r : code.Refusal} → v ≡ Refused r → faults t ≡ some (saidRefusal r)
     unfolding unless
     refused-some e = unless-refused (faults t) tt _ _ .0 (sym said ∙ ap saidCheck e)
 

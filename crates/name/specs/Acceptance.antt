@@ -35,10 +35,10 @@ unfoldable pub stringPasses : List ℕ → ℕ → Bool
 stringPasses t at = ltb (length t) (stringEnd t at)
 
 -- 18: "In format 0 a language of 0x8000 or more is allowed only for platforms 240 to 255.
--- In format 1 a language of 0x8000 or more must be below 0x8000 plus the tag count, on every platform."
+-- In format 1 a language of 0x8000 or more must be below 0x8000 plus the tag count, on every platform.": language l on platform p in format f
 unfoldable pub forbidden : ℕ → ℕ → ℕ → ℕ → Bool
-forbidden format tags platform language =
-    leb 32768 language && cond (eqb format 0) (ltb platform 240 || ltb 255 platform) (leb (32768 + tags) language)
+forbidden f tags p l =
+    leb 32768 l && cond (eqb f 0) (ltb p 240 || ltb 255 p) (leb (32768 + tags) l)
 
 -- 18 of record i
 unfoldable pub languageRefused : List ℕ → ℕ → Bool

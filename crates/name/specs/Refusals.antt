@@ -8,21 +8,21 @@ use Rattle.name.specs.declared.Verdict.{Verdict}
 use Rattle.name.specs.declared.Verdict.the-variants.{Accepted, Refused}
 
 -- "No." and "Carries"
-abbrev pub toldOf : Refusal → outcomes.Refusal
-toldOf TooShort = bare 10
-toldOf UnknownFormat = bare 11
-toldOf RecordsPastEnd = bare 12
-toldOf TagsPastEnd = bare 13
-toldOf StorageMisplaced = bare 14
-toldOf (RecordString i) = carrying 15 i
-toldOf (TagString i) = carrying 16 i
-toldOf (KeyNotAbove i) = carrying 17 i
-toldOf (LanguageRefused i) = carrying 18 i
+abbrev pub saidRefusal : Refusal → outcomes.Refusal
+saidRefusal TooShort = bare 10
+saidRefusal UnknownFormat = bare 11
+saidRefusal RecordsPastEnd = bare 12
+saidRefusal TagsPastEnd = bare 13
+saidRefusal StorageMisplaced = bare 14
+saidRefusal (RecordString i) = carrying 15 i
+saidRefusal (TagString i) = carrying 16 i
+saidRefusal (KeyNotAbove i) = carrying 17 i
+saidRefusal (LanguageRefused i) = carrying 18 i
 
 -- the refusal of a verdict, and the verdict as an outcome
 abbrev pub saidFault : Verdict → Option outcomes.Refusal
 saidFault Accepted = none
-saidFault (Refused r) = some (toldOf r)
+saidFault (Refused r) = some (saidRefusal r)
 
 abbrev pub saidCheck : Verdict → Outcome (Unit {0})
 saidCheck v = unless (saidFault v) accepted

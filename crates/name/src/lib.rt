@@ -8,7 +8,7 @@ ghost use lib.ListN.{length};
 ghost use Rattle.outcomes.specs.Firsts.{firstOf};
 ghost use Rattle.outcomes.specs.Outcomes.{refusalOf};
 ghost use Rattle.name_layout.specs.Layout.{count, recordAt, tagCount};
-ghost use Rattle.name.specs.Refusals.{toldOf, saidFault, saidCheck};
+ghost use Rattle.name.specs.Refusals.{saidRefusal, saidFault, saidCheck};
 ghost use Rattle.name.specs.Acceptance.{tooShort, otherFormat, recordsPass, tagsPass, misplaced, stringPasses, forbidden, languageRefused, notAbove, layoutFault, recordFault, tagFault, checkOf};
 ghost use Rattle.name.specs.Steps.{Framed};
 use name_layout::format_number;
@@ -50,7 +50,7 @@ pub enum Verdict {
 impl Refusal {
     // Document 01's number, and what it carries.
     pub fn told(self) -> Told
-        ensures { λ r. ⌜ refusalOf r ≡ toldOf self ⌝ }
+        ensures { λ r. ⌜ refusalOf r ≡ saidRefusal self ⌝ }
     {
         match self {
             Refusal::TooShort => Told {

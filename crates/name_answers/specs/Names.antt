@@ -8,7 +8,7 @@ use Rattle.outcomes.specs.Outcomes as outcomes
 use Rattle.outcomes.specs.Outcomes.{bare, Outcome, refused, answered, unless, refusing}
 use Rattle.name_layout.specs.Layout.{bytesOf}
 use Rattle.name_layout.specs.Keys.{keyFrom}
-use Rattle.name.specs.Refusals.{toldOf}
+use Rattle.name.specs.Refusals.{saidRefusal}
 use Rattle.name.specs.Acceptance.{faults}
 use Rattle.name_search.specs.declared.Text.{Text}
 use Rattle.name_search.specs.Searches.{recordWith, textOf}
@@ -43,13 +43,13 @@ unfoldable pub postscriptOf : List ℕ → Outcome Text
 postscriptOf t = unless (faults t) (fromBoth t (recordWith t (keyFrom 1 0 0 6)) (recordWith t (keyFrom 3 1 1033 6)))
 
 -- what the code's refusals and answers say
-abbrev pub toldName : PostscriptRefusal → outcomes.Refusal
-toldName (Table r) = toldOf r
-toldName NoRecord = bare 21
-toldName OneRecord = bare 22
-toldName IllFormed = bare 23
-toldName Different = bare 24
+abbrev pub saidNameRefusal : PostscriptRefusal → outcomes.Refusal
+saidNameRefusal (Table r) = saidRefusal r
+saidNameRefusal NoRecord = bare 21
+saidNameRefusal OneRecord = bare 22
+saidNameRefusal IllFormed = bare 23
+saidNameRefusal Different = bare 24
 
 abbrev pub saidName : PostscriptAnswer → Outcome Text
 saidName (Name x) = answered x
-saidName (Refused r) = refusing (toldName r)
+saidName (Refused r) = refusing (saidNameRefusal r)

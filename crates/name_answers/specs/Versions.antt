@@ -7,7 +7,7 @@ use Rattle.outcomes.specs.Outcomes as outcomes
 use Rattle.outcomes.specs.Outcomes.{bare, Outcome, refused, answered, unless, refusing}
 use Rattle.name_layout.specs.Layout.{bytesOf}
 use Rattle.name_layout.specs.Keys.{keyFrom}
-use Rattle.name.specs.Refusals.{toldOf}
+use Rattle.name.specs.Refusals.{saidRefusal}
 use Rattle.name.specs.Acceptance.{faults}
 use Rattle.name_search.specs.Searches.{recordWith}
 use Rattle.version_text.specs.Versions.{Figures, versionIn}
@@ -27,11 +27,11 @@ unfoldable pub versionOf : List ℕ → Outcome Figures
 versionOf t = unless (faults t) (fromRecords t (recordWith t (keyFrom 3 1 1033 5)) (recordWith t (keyFrom 1 0 0 5)))
 
 -- what the code's refusals and answers say
-abbrev pub toldVersion : VersionRefusal → outcomes.Refusal
-toldVersion (Table r) = toldOf r
-toldVersion NoRecord = bare 20
-toldVersion NoNumber = bare 25
+abbrev pub saidVersionRefusal : VersionRefusal → outcomes.Refusal
+saidVersionRefusal (Table r) = saidRefusal r
+saidVersionRefusal NoRecord = bare 20
+saidVersionRefusal NoNumber = bare 25
 
 abbrev pub saidVersion : VersionAnswer → Outcome Figures
 saidVersion (Number a b) = answered (record { major = a; minor = b })
-saidVersion (Refused r) = refusing (toldVersion r)
+saidVersion (Refused r) = refusing (saidVersionRefusal r)

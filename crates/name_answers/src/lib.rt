@@ -14,8 +14,8 @@ ghost use Rattle.characters.specs.Strings.{characters};
 ghost use Rattle.charset.specs.Allowed.{allowed};
 ghost use Rattle.version_text.specs.Versions.{versionIn};
 ghost use Rattle.name_answers.specs.Forms.{wrongCount, illFormed, differ};
-ghost use Rattle.name_answers.specs.Names.{fromStrings, postscriptOf, toldName, saidName};
-ghost use Rattle.name_answers.specs.Versions.{versionOf, toldVersion, saidVersion};
+ghost use Rattle.name_answers.specs.Names.{fromStrings, postscriptOf, saidNameRefusal, saidName};
+ghost use Rattle.name_answers.specs.Versions.{versionOf, saidVersionRefusal, saidVersion};
 ghost use Rattle.name_answers.specs.Steps.{Present};
 use name::Refusal;
 use name_search::Found;
@@ -65,7 +65,7 @@ pub enum VersionAnswer {
 impl PostscriptRefusal {
     // Document 01's number, and what it carries.
     pub fn told(self) -> Told
-        ensures { λ r. ⌜ refusalOf r ≡ toldName self ⌝ }
+        ensures { λ r. ⌜ refusalOf r ≡ saidNameRefusal self ⌝ }
     {
         match self {
             PostscriptRefusal::Table(refusal) => refusal.told(),
@@ -92,7 +92,7 @@ impl PostscriptRefusal {
 impl VersionRefusal {
     // Document 01's number, and what it carries.
     pub fn told(self) -> Told
-        ensures { λ r. ⌜ refusalOf r ≡ toldVersion self ⌝ }
+        ensures { λ r. ⌜ refusalOf r ≡ saidVersionRefusal self ⌝ }
     {
         match self {
             VersionRefusal::Table(refusal) => refusal.told(),
@@ -195,10 +195,10 @@ fn ill_formed(text: &[u8], wide: bool) -> bool
 }
 
 // Whether so many characters are too few or too many for a PostScript name.
-fn wrong_count(count: usize) -> bool
-    ensures { λ r. ⌜ r ≡ wrongCount count ⌝ }
+fn wrong_count(n: usize) -> bool
+    ensures { λ r. ⌜ r ≡ wrongCount n ⌝ }
 {
-    count < 1 || 63 < count
+    n < 1 || 63 < n
 }
 
 // Whether a PostScript name may not hold the character of this code.

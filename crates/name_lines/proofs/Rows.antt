@@ -1,4 +1,4 @@
--- Document 01's listings, by computation.
+-- Document 01's listings and lines, by computation.
 -- Assumes nothing.
 use mathlib.Core.Path.{_≡_, refl}
 use mathlib.Core.List.{map}
@@ -19,7 +19,7 @@ use Rattle.lines.specs.Numerals.{digits, decimal}
 use Rattle.lines.specs.Lines.{listed}
 use Rattle.name_lines.specs.Lines.{headLine, keyParts, recordLine, postscriptLine}
 use Rattle.name_lines.specs.Listings.{recordTexts, listingOf}
-use Rattle.name_lines.specs.Examples.{tables, listings}
+use Rattle.name_lines.specs.Examples.{tables, listings, otherLines, otherTexts}
 
 pub listings-hold : map listingOf tables ≡ listings
 unfolding when _then_ firstOf unless number char odd allowed tagCount tagsAt bytesOf keyOf same below
@@ -27,3 +27,7 @@ unfolding when _then_ firstOf unless number char odd allowed tagCount tagsAt byt
     recordWith textOf tooFew tooMany wrongCount otherAt illFormed differAt differ fromStrings fromBoth postscriptOf fromRecords versionOf
     digits decimal listed headLine keyParts recordLine postscriptLine recordTexts listingOf
 listings-hold = refl
+
+pub lines-hold : otherLines ≡ otherTexts
+unfolding digits decimal
+lines-hold = refl

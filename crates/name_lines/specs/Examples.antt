@@ -1,7 +1,10 @@
 -- Document 01, "it writes": its tables and what is listed of each.
 use Prim.Native.Nat.{ℕ}
-use mathlib.Core.List.{List, [], _∷_}
+use mathlib.Core.Option.{none}
+use mathlib.Core.List.{List, [], _∷_, map}
 use Rattle.characters.specs.Texts.{codes}
+use Rattle.outcomes.specs.Outcomes.{refused, answered}
+use Rattle.name_lines.specs.Listings.{postscriptText, versionText}
 
 -- "records (1,0,0,6) offset 0 length 2 and (3,1,0x409,6) offset 2 length 4, storage start 30, storage 41 62 00 41 00 62"
 abbrev pub twoRecords : List ℕ
@@ -26,4 +29,21 @@ listings =
     codes "name format 0 records 2 storage 6\n0 1 0 0 6 0 2\n1 3 1 1033 6 2 4\npostscript Ab\nversion refused 20\n"
     ∷ codes "refused 17 at 1\n"
     ∷ codes "refused 11\n"
+    ∷ []
+
+-- "A version found reads `version 2 5`, a PostScript refusal `postscript refused 21`", and a version's refusal reads alike
+abbrev pub otherLines : List (List ℕ)
+otherLines =
+    versionText (answered (record { major = 2; minor = 5 }))
+    ∷ versionText (refused 25 none)
+    ∷ map (λ (n : ℕ). postscriptText [] (refused n none)) (21 ∷ 22 ∷ 23 ∷ 24 ∷ [])
+
+abbrev pub otherTexts : List (List ℕ)
+otherTexts =
+    codes "version 2 5\n"
+    ∷ codes "version refused 25\n"
+    ∷ codes "postscript refused 21\n"
+    ∷ codes "postscript refused 22\n"
+    ∷ codes "postscript refused 23\n"
+    ∷ codes "postscript refused 24\n"
     ∷ []

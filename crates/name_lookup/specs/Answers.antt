@@ -4,7 +4,7 @@ use mathlib.Core.List.{List}
 use Rattle.outcomes.specs.Outcomes as outcomes
 use Rattle.outcomes.specs.Outcomes.{bare, Outcome, answered, unless, refusing, foundOr}
 use Rattle.name_layout.specs.Keys.{Key}
-use Rattle.name.specs.Refusals.{toldOf}
+use Rattle.name.specs.Refusals.{saidRefusal}
 use Rattle.name.specs.Acceptance.{faults}
 use Rattle.name_search.specs.declared.Text.{Text}
 use Rattle.name_search.specs.Searches.{recordWith, textOf}
@@ -19,13 +19,13 @@ unfoldable pub lookupOf : List ℕ → Key → Outcome Text
 lookupOf t k = unless (faults t) (foundOr (bare 20) (recordWith t k) (λ i. answered (textOf t i)))
 
 -- what the code's refusals and answers say
-abbrev pub toldLookup : LookupRefusal → outcomes.Refusal
-toldLookup (Table r) = toldOf r
-toldLookup NoRecord = bare 20
+abbrev pub saidLookupRefusal : LookupRefusal → outcomes.Refusal
+saidLookupRefusal (Table r) = saidRefusal r
+saidLookupRefusal NoRecord = bare 20
 
 abbrev pub saidAnswer : Answer → Outcome Text
 saidAnswer (Found x) = answered x
-saidAnswer (Refused r) = refusing (toldLookup r)
+saidAnswer (Refused r) = refusing (saidLookupRefusal r)
 
 abbrev pub saidLookup : LookedUp → Outcome Text
 saidLookup l = saidAnswer (l .answer)

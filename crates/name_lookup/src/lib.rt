@@ -4,7 +4,7 @@
 ghost use mathlib.Core.Path.{_≡_};
 ghost use Rattle.outcomes.specs.Outcomes.{refusalOf};
 ghost use Rattle.name_layout.specs.Keys.{keyFrom};
-ghost use Rattle.name_lookup.specs.Answers.{toldLookup, saidLookup, lookupOf};
+ghost use Rattle.name_lookup.specs.Answers.{saidLookupRefusal, saidLookup, lookupOf};
 pub use name::Refusal;
 use name::Verdict;
 use name_search::Found;
@@ -35,7 +35,7 @@ pub struct LookedUp {
 impl LookupRefusal {
     // Document 01's number, and what it carries.
     pub fn told(self) -> Told
-        ensures { λ r. ⌜ refusalOf r ≡ toldLookup self ⌝ }
+        ensures { λ r. ⌜ refusalOf r ≡ saidLookupRefusal self ⌝ }
     {
         match self {
             LookupRefusal::Table(refusal) => refusal.told(),

@@ -9,8 +9,8 @@ use lib.IntN.{pos, negsuc}
 use lib.Ieee.{binary32, div}
 use Rattle.characters.specs.Texts.{codes}
 use Rattle.characters.specs.Digits.{readsFrom}
-use Rattle.os2_style.specs.Style.{float, percentOf}
-use Rattle.os2_figures.specs.Figures.{signedText, fraction, figure, percentHundredths, pointsText}
+use Rattle.os2_style.specs.Style.{float, percentOf, sizesOf}
+use Rattle.os2_figures.specs.Figures.{signedText, fraction, figure, rightsText, percentHundredths, positionText, pointsText, sizesText}
 
 abbrev pub Signs : Type 0
 Signs = map signedText (pos 0 ∷ pos 4294967295 ∷ negsuc 0 ∷ negsuc 32767 ∷ []) ≡ codes "0" ∷ codes "4294967295" ∷ codes "-1" ∷ codes "-32768" ∷ []
@@ -48,3 +48,20 @@ Percents =
 -- they are the floats of the answer
 abbrev pub SamePercents : Type 0
 SamePercents = map (λ (w : ℕ). div binary32 (float (percentHundredths w)) (float 100)) widths ≡ map percentOf widths
+
+-- rights by fsType's bit
+abbrev pub RightsRead : Type 0
+RightsRead = map rightsText (0 ∷ 1 ∷ 2 ∷ 3 ∷ []) ≡ codes "installable" ∷ codes "restricted" ∷ codes "preview" ∷ codes "editable" ∷ []
+
+-- weight 400 and width class 5, weight 1 and width class 2, weight 1000 and width class 9
+abbrev pub Positions : Type 0
+Positions = positionText 400 5 ∷ positionText 1 2 ∷ positionText 1000 9 ∷ [] ≡ codes "400 100" ∷ codes "1 62.5" ∷ codes "1000 200" ∷ []
+
+-- optical sizes as the table stores them, in twentieths of a point
+abbrev pub listedSizes : ℕ → ℕ → List ℕ
+listedSizes lower upper = sizesText lower upper (sizesOf lower upper)
+
+abbrev pub SizesRead : Type 0
+SizesRead =
+    listedSizes 0 65535 ∷ listedSizes 200 65535 ∷ listedSizes 160 241 ∷ listedSizes 0 1 ∷ []
+    ≡ codes "every size" ∷ codes "from 10 upwards" ∷ codes "between 8 and 12.05" ∷ codes "between 0 and 0.05" ∷ []

@@ -12,7 +12,7 @@ use lib.Dec.{eqb}
 use lib.ListN.{length, drop}
 use borrow.Author.Tests.{not-true, ltb-true}
 use Rattle.outcomes.specs.Firsts.{when, firstOf}
-use Rattle.outcomes.specs.Outcomes.{bare, Outcome, refused, answered, unless}
+use Rattle.outcomes.specs.Outcomes.{bare, Outcome, refused, answered, unless, foundOr}
 use Rattle.outcomes.proofs.Tests.{equal, and-true, fails}
 use Rattle.outcomes.proofs.Laws.{when-none, when-some, first-all, first-exactly, unless-answered}
 use Rattle.characters.specs.Digits.{digit, Digit}
@@ -20,7 +20,7 @@ use Rattle.characters.specs.Strings.{characters, char, odd}
 use Rattle.characters.proofs.Digits.{digit-is}
 use Rattle.characters.proofs.Laws.{char-within, char-pairs, length-pairs}
 use Rattle.version_text.specs.Versions.{period, digits, groupEnd, figure, groupFigure, small, mayStart, isNumber}
-use Rattle.version_text.specs.Versions.{Figures, numberAt, foundOr25, versionIn}
+use Rattle.version_text.specs.Versions.{Figures, numberAt, firstNumber, versionIn}
 use Rattle.version_text.specs.Qualifying.{Group, Qualifies, First, Odd, Right, HighByteZero}
 use Rattle.version_text.proofs.Groups.{digit-within, digits-more, digits-each, digits-end, digits-are, Read}
 use Rattle.version_text.proofs.Starts.{yields}
@@ -133,10 +133,10 @@ nothing l i = (there, by (numberAt l i) refl)
 -- ---- the first start
 
 module _ (l : List ℕ) where
-  first : (a b : ℕ) → (firstOf (numberAt l) (length l) ≡ some (record { major = a; minor = b })) ↔ First l a b
+  first : (a b : ℕ) → (firstNumber l ≡ some (record { major = a; minor = b })) ↔ First l a b
   first a b = (there, back)
     where
-      there : firstOf (numberAt l) (length l) ≡ some (record { major = a; minor = b }) → First l a b
+      there : firstNumber l ≡ some (record { major = a; minor = b }) → First l a b
       there e =
           let r = first-exactly (numberAt l) (length l) _ .0 e in
           record {
@@ -145,7 +145,7 @@ module _ (l : List ℕ) where
             least = λ i x y h. nothing l i .0 (r .earlier i h) x y;
           }
 
-      back : First l a b → firstOf (numberAt l) (length l) ≡ some (record { major = a; minor = b })
+      back : First l a b → firstNumber l ≡ some (record { major = a; minor = b })
       back r = first-exactly (numberAt l) (length l) _ .1 (record {
         place = r .start;
         inside = digit-within l (r .start) (group-digit l (r .start) (r .here .j) a (r .here .first));
@@ -153,7 +153,7 @@ module _ (l : List ℕ) where
         earlier = λ i h. nothing l i .1 (λ x y. r .least i x y h);
       })
 
-  none-first : (firstOf (numberAt l) (length l) ≡ none) ↔ ((i a b : ℕ) → Qualifies l i a b → ⊥)
+  none-first : (firstNumber l ≡ none) ↔ ((i a b : ℕ) → Qualifies l i a b → ⊥)
   none-first = (
     λ e i a b q. nothing l i .0 (first-all (numberAt l) (length l) .0 e i (digit-within l i (group-digit l i (q .j) a (q .first)))) a b q,
     λ h. first-all (numberAt l) (length l) .1 (λ i g. nothing l i .1 (h i)),
@@ -169,49 +169,54 @@ odd-is wide bytes = (
 )
 
 -- what is answered is what was found, and 25 is that nothing was
-found-is : (o : Option Figures) (f : Figures) → foundOr25 o ≡ answered f → o ≡ some f
+abbrev orNone : Option Figures → Outcome Figures
+orNone o = foundOr (bare 25) o answered
+
+found-is : (o : Option Figures) (f : Figures) → orNone o ≡ answered f → o ≡ some f
+unfolding foundOr
 found-is (some g) f e = cc
 found-is none f e = let z : _≡_ {A = ℕ} 0 1 = cc in absurd (omega arith)
 
-missing-is : (o : Option Figures) → foundOr25 o ≡ refused 25 none → o ≡ none
+missing-is : (o : Option Figures) → orNone o ≡ refused 25 none → o ≡ none
+unfolding foundOr
 missing-is (some g) e = let z : _≡_ {A = ℕ} 0 1 = cc in absurd (omega arith)
 missing-is none e = refl
 
 -- nothing else is refused
-refused-is : (t : Bool) (o : Option Figures) {n : ℕ} {c : Option ℕ} → unless (when t (bare 25)) (foundOr25 o) ≡ refused n c
-    → unless (when t (bare 25)) (foundOr25 o) ≡ refused 25 none
-unfolding unless when
+refused-is : (t : Bool) (o : Option Figures) {n : ℕ} {c : Option ℕ} → unless (when t (bare 25)) (orNone o) ≡ refused n c
+    → unless (when t (bare 25)) (orNone o) ≡ refused 25 none
+unfolding unless when foundOr
 refused-is true o e = refl
 refused-is false none e = refl
 refused-is false (some f) e = let z : _≡_ {A = ℕ} 0 1 = cc in absurd (omega arith)
 
 pub refused-25 : (wide : Bool) (bytes : List ℕ) {n : ℕ} {c : Option ℕ} → versionIn wide bytes ≡ refused n c → versionIn wide bytes ≡ refused 25 none
 unfolding versionIn
-refused-25 wide bytes e = refused-is (odd wide bytes) (firstOf (numberAt (characters wide bytes)) (length (characters wide bytes))) e
+refused-25 wide bytes e = refused-is (odd wide bytes) (firstNumber (characters wide bytes)) e
 
 module _ (wide : Bool) (bytes : List ℕ) where
   found-right : (a b : ℕ) → (versionIn wide bytes ≡ answered (record { major = a; minor = b })) ↔ ((Odd wide bytes → ⊥) × First (characters wide bytes) a b)
-  unfolding versionIn
+  unfolding versionIn foundOr
   found-right a b =
       let l = characters wide bytes in
       let even = fails (odd wide bytes) (odd-is wide bytes) in
       let passed = when-none (odd wide bytes) (bare 25) in
-      let whole = unless-answered (when (odd wide bytes) (bare 25)) (foundOr25 (firstOf (numberAt l) (length l))) (record { major = a; minor = b }) in (
+      let whole = unless-answered (when (odd wide bytes) (bare 25)) (orNone (firstNumber l)) (record { major = a; minor = b }) in (
         λ q. let p = whole .0 q in (even .0 (passed .0 (p .0)), first l a b .0 (found-is _ _ (p .1))),
-        λ p. whole .1 (passed .1 (even .1 (p .0)), ap foundOr25 (first l a b .1 (p .1))),
+        λ p. whole .1 (passed .1 (even .1 (p .0)), ap orNone (first l a b .1 (p .1))),
       )
 
   missing-right : (versionIn wide bytes ≡ refused 25 none) ↔ (Odd wide bytes ⊎ ((i a b : ℕ) → Qualifies (characters wide bytes) i a b → ⊥))
-  unfolding versionIn unless when
+  unfolding versionIn unless when foundOr
   missing-right = by (odd wide bytes) refl
     where
       by : (t : Bool) → odd wide bytes ≡ t
-          → (unless (when t (bare 25)) (foundOr25 (firstOf (numberAt (characters wide bytes)) (length (characters wide bytes)))) ≡ refused 25 none)
+          → (unless (when t (bare 25)) (orNone (firstNumber (characters wide bytes))) ≡ refused 25 none)
           ↔ (Odd wide bytes ⊎ ((i a b : ℕ) → Qualifies (characters wide bytes) i a b → ⊥))
       by true e = (λ q. inl (odd-is wide bytes .0 e), λ s. refl)
       by false e = (
         λ q. inr (none-first (characters wide bytes) .0 (missing-is _ q)),
-        ⊎-elim (λ o. absurd (true≢false (sym (odd-is wide bytes .1 o) ∙ e))) (λ h. ap foundOr25 (none-first (characters wide bytes) .1 h)),
+        ⊎-elim (λ o. absurd (true≢false (sym (odd-is wide bytes .1 o) ∙ e))) (λ h. ap orNone (none-first (characters wide bytes) .1 h)),
       )
 
 -- document 01's rules hold of the definition

@@ -1,12 +1,12 @@
 -- Document 01, "PostScript name and version number": the version number in the characters of a string.
 use Prim.Native.Nat.{ℕ, zero, suc, _+_}
 use mathlib.Core.Bool.{Bool, cond, not, _&&_}
-use mathlib.Core.Option.{Option, none, some}
+use mathlib.Core.Option.{Option, none}
 use mathlib.Core.List.{List, [], _∷_}
 use lib.Dec.{ltb, eqb}
 use lib.ListN.{length, drop}
 use Rattle.outcomes.specs.Firsts.{when, firstOf}
-use Rattle.outcomes.specs.Outcomes.{bare, Outcome, refused, answered, unless}
+use Rattle.outcomes.specs.Outcomes.{bare, Outcome, refused, answered, unless, foundOr}
 use Rattle.characters.specs.Digits.{digit, longer}
 use Rattle.characters.specs.Strings.{characters, char, odd}
 use Rattle.version_text.specs.declared.Version.{Version}
@@ -59,15 +59,13 @@ numberAt l i =
     let k : ℕ = groupEnd l i + 1 in
     when (isNumber l i k) (record { major = groupFigure l i; minor = groupFigure l k })
 
--- the number found, or 25: "no version number in the string"
-abbrev pub foundOr25 : Option Figures → Outcome Figures
-foundOr25 (some f) = answered f
-foundOr25 none = refused 25 none
+-- "the first start, from the left, that yields a number wins"
+abbrev pub firstNumber : List ℕ → Option Figures
+firstNumber l = firstOf (numberAt l) (length l)
 
--- "the first start, from the left, that yields a number wins"; "a two-byte string of odd length gives 25"
+-- the number found, or 25: "no version number in the string"; "a two-byte string of odd length gives 25"
 unfoldable pub versionIn : Bool → List ℕ → Outcome Figures
-versionIn wide bytes =
-    unless (when (odd wide bytes) (bare 25)) (foundOr25 (firstOf (numberAt (characters wide bytes)) (length (characters wide bytes))))
+versionIn wide bytes = unless (when (odd wide bytes) (bare 25)) (foundOr (bare 25) (firstNumber (characters wide bytes)) answered)
 
 -- the code's answer so
 abbrev pub said : Version → Outcome Figures

@@ -13,7 +13,7 @@ returns c = rw (c .enum-told .given .1)
 
 returns-2 : tie.Need-returns-2
 unfolding outcomeRefusal unless
-returns-2 c = rw (c .before .before .before .checked .given .1, c .refusal-words .ensures ∙ ap toldWords (c .before .told .ensures))
+returns-2 c = rw (c .before .before .before .verdict .given .1, c .refusal-words .ensures ∙ ap toldWords (c .before .told .ensures))
 
 pub checked-words-spec : {M : Type 1} → statement M
 checked-words-spec =

@@ -11,11 +11,11 @@ use lib.ListN.{length}
 use borrow.Author.Needs.{needs}
 use borrow.Author.Tests.{not-true, not-false}
 use Rattle.outcomes.specs.Firsts.{when, firstOf}
-use Rattle.outcomes.specs.Outcomes.{unless}
+use Rattle.outcomes.specs.Outcomes.{bare, answered, unless, foundOr}
 use Rattle.outcomes.proofs.Laws.{first-none, first-more, first-stop}
 use Rattle.characters.specs.Digits.{digit}
 use Rattle.characters.specs.Strings.{characters, char}
-use Rattle.version_text.specs.Versions.{numberAt, foundOr25, versionIn}
+use Rattle.version_text.specs.Versions.{numberAt, versionIn}
 use Rattle.version_text.proofs.Groups.{digit-within, period-within, Reading, Read, reading-none, reading-more, reading-end}
 use Rattle.version_text.proofs.Starts.{no-start, no-period, no-second, first-large, second-large, yields}
 use Rattle.version_text.proofs.version_of.Statement.{statement}
@@ -90,9 +90,9 @@ string c = characters (c .before .before .before .args .wide) (c .before .before
 abbrev start : Turn → ℕ
 start c = c .before .starts .next
 
--- the length is not odd, so the starts are searched
+-- the length is not odd, so the starts are searched, and what is found is answered
 searched : (c : Even) → versionIn (c .before .before .before .args .wide) (c .before .before .before .args .text .now)
-    ≡ foundOr25 (firstOf (numberAt (string c)) (length (string c)))
+    ≡ foundOr (bare 25) (firstOf (numberAt (string c)) (length (string c))) answered
 unfolding versionIn when unless
 searched c = rw (← c .before .is-odd .ensures, c .if1 .left)
 
@@ -200,14 +200,16 @@ loop2-again : tie.Need-loop2-again Inv-loop μ-loop Inv-loop2 μ-loop2 Inv-start
 loop2-again c = rw (c .with-digit2 .ensures, c .before .code3 .ensures) (reading-more _ _ _ _ (second-digit (c .before .before)) (c .before .before .before .before .loop2 .inv))
 
 returns-2 : tie.Need-returns-2 Inv-loop μ-loop Inv-loop2 μ-loop2 Inv-starts μ-starts
+unfolding foundOr
 returns-2 c =
     let e : length (string (c .before .before .before)) ≡ c .before .starts .next = omega (arith, c .before .before .count .ensures) in
-    sym (searched (c .before .before .before) ∙ ap foundOr25 (ap (firstOf _) e ∙ c .before .starts .inv .1))
+    sym (searched (c .before .before .before) ∙ ap (λ o. foundOr (bare 25) o answered) (ap (firstOf _) e ∙ c .before .starts .inv .1))
 
 returns-3 : tie.Need-returns-3 Inv-loop μ-loop Inv-loop2 μ-loop2 Inv-starts μ-starts
+unfolding foundOr
 returns-3 c =
     let t : Turn = turn-of (first-of (c .before .before .before .before)) in
-    sym (searched (even-of t) ∙ ap foundOr25 (first-stop _ _ _ (within t) (t .before .starts .inv .1) (found c)))
+    sym (searched (even-of t) ∙ ap (λ o. foundOr (bare 25) o answered) (first-stop _ _ _ (within t) (t .before .starts .inv .1) (found c)))
 
 pub version-of-spec : {M : Type 1} → statement M
 version-of-spec =

@@ -2,7 +2,7 @@
 -- Assumes nothing.
 use mathlib.Core.Path.{sym, _∙_, ap}
 use borrow.Author.Needs.{needs}
-use Rattle.name_answers.specs.Names.{toldName}
+use Rattle.name_answers.specs.Names.{saidNameRefusal}
 use Rattle.name_answers.proofs.PostscriptRefusal.told.Statement.{statement}
 use Rattle.name_answers.proofs.PostscriptRefusal.told.Tie as tie
 
@@ -16,8 +16,8 @@ told-spec =
     (λ c. search needs)
     (λ c. search needs)
     (λ c. search needs)
-    (λ c. c .told .ensures ∙ sym (ap toldName (c .before .before .self .given .1)))
-    (λ c. sym (ap toldName (c .enum-told .given .1)))
-    (λ c. sym (ap toldName (c .enum-told2 .given .1)))
-    (λ c. sym (ap toldName (c .enum-told3 .given .1)))
-    (λ c. sym (ap toldName (c .enum-told4 .given .1))))
+    (λ c. c .told .ensures ∙ sym (ap saidNameRefusal (c .before .before .self .given .1)))
+    (λ c. sym (ap saidNameRefusal (c .enum-told .given .1)))
+    (λ c. sym (ap saidNameRefusal (c .enum-told2 .given .1)))
+    (λ c. sym (ap saidNameRefusal (c .enum-told3 .given .1)))
+    (λ c. sym (ap saidNameRefusal (c .enum-told4 .given .1))))

@@ -2,7 +2,7 @@
 -- Assumes nothing.
 use mathlib.Core.Path.{sym, _∙_, ap}
 use borrow.Author.Needs.{needs}
-use Rattle.name_answers.specs.Versions.{toldVersion}
+use Rattle.name_answers.specs.Versions.{saidVersionRefusal}
 use Rattle.name_answers.proofs.VersionRefusal.told.Statement.{statement}
 use Rattle.name_answers.proofs.VersionRefusal.told.Tie as tie
 
@@ -14,6 +14,6 @@ told-spec =
     (λ c κs. search needs)
     (λ c. search needs)
     (λ c. search needs)
-    (λ c. c .told .ensures ∙ sym (ap toldVersion (c .before .before .self .given .1)))
-    (λ c. sym (ap toldVersion (c .enum-told .given .1)))
-    (λ c. sym (ap toldVersion (c .enum-told2 .given .1))))
+    (λ c. c .told .ensures ∙ sym (ap saidVersionRefusal (c .before .before .self .given .1)))
+    (λ c. sym (ap saidVersionRefusal (c .enum-told .given .1)))
+    (λ c. sym (ap saidVersionRefusal (c .enum-told2 .given .1))))

@@ -2,7 +2,7 @@
 -- Assumes nothing.
 use mathlib.Core.Path.{sym, _∙_, ap}
 use borrow.Author.Needs.{needs}
-use Rattle.name_lookup.specs.Answers.{toldLookup}
+use Rattle.name_lookup.specs.Answers.{saidLookupRefusal}
 use Rattle.name_lookup.proofs.LookupRefusal.told.Statement.{statement}
 use Rattle.name_lookup.proofs.LookupRefusal.told.Tie as tie
 
@@ -13,5 +13,5 @@ told-spec =
     (λ c. search needs)
     (λ c κs. search needs)
     (λ c. search needs)
-    (λ c. c .told .ensures ∙ sym (ap toldLookup (c .before .before .self .given .1)))
-    (λ c. sym (ap toldLookup (c .enum-told .given .1))))
+    (λ c. c .told .ensures ∙ sym (ap saidLookupRefusal (c .before .before .self .given .1)))
+    (λ c. sym (ap saidLookupRefusal (c .enum-told .given .1))))
