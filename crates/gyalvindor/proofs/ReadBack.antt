@@ -68,15 +68,15 @@ said-refused r x h = at (r .carried)
     at (some k) = rw h
 
 -- an order of refusals that have numbers can be read back, where what comes after it can
-module _ {A W : Type 0} (words : Outcome A → W) (refusal : W → GvRefusal) (answer : W → A)
-    (words-refused : (n : ℕ) (c : Option ℕ) → refusal (words (refused n c)) ≡ refusalWords n c) where
-  abbrev Back : Outcome A → Type 0
-  Back o = said (refusal (words o)) (answer (words o)) ≡ o
+module _ {A W : Type 0} (words : Outcome A → W) (refusal : W → GvRefusal) (answer : W → A) where
+  module _ (words-refused : (n : ℕ) (c : Option ℕ) → refusal (words (refused n c)) ≡ refusalWords n c) where
+    abbrev Back : Outcome A → Type 0
+    Back o = said (refusal (words o)) (answer (words o)) ≡ o
 
-  back-unless : (r : Option Refusal) (o : Outcome A) → Only Numbered r → Back o → Back (unless r o)
-  unfolding unless
-  back-unless none o p h = h
-  back-unless (some r) o p h = rw (words-refused (r .number) (r .carried)) (said-refused r _ (p r refl))
+    back-unless : (r : Option Refusal) (o : Outcome A) → Only Numbered r → Back o → Back (unless r o)
+    unfolding unless
+    back-unless none o p h = h
+    back-unless (some r) o p h = rw (words-refused (r .number) (r .carried)) (said-refused r _ (p r refl))
 
 -- ---- the orders: no number is 0
 
@@ -223,19 +223,19 @@ abbrev pub opticalSaid : GvOptical → Outcome Said
 opticalSaid w = said (w .refusal) (saidBy (w .kind) (sizes (sizesIn w)))
 
 -- what a question answers can be read back, where its value can, and absent and not known
-module _ {W : Type 0} (words : Outcome Said → W) (refusal : W → GvRefusal) (answer : W → Said)
-    (words-refused : (n : ℕ) (c : Option ℕ) → refusal (words (refused n c)) ≡ refusalWords n c)
-    (of-absent : Back words refusal answer words-refused (answered absent)) (of-not-known : Back words refusal answer words-refused (answered not-known)) where
-  asked : (L : ℕ) (b : List ℕ) (q : Question) → Back words refusal answer words-refused (answered (value (valueOf b q))) →
-      Back words refusal answer words-refused (ask L b q)
-  unfolding ask given
-  asked L b q h =
-      back-unless words refusal answer words-refused _ _ (both _ _ (before-numbered L q) (judged-numbered L b)) (at (caseOf (since q) (onWhole q) L (version b)))
-    where
-      at : (c : Case) → Back words refusal answer words-refused (answered (saidCase c (valueOf b q)))
-      at Case·.NotKnown = of-not-known
-      at Case·.Absent = of-absent
-      at Case·.Value = h
+module _ {W : Type 0} (words : Outcome Said → W) (refusal : W → GvRefusal) (answer : W → Said) where
+  module _ (words-refused : (n : ℕ) (c : Option ℕ) → refusal (words (refused n c)) ≡ refusalWords n c) where
+    module _ (of-absent : Back words refusal answer words-refused (answered absent)) (of-not-known : Back words refusal answer words-refused (answered not-known)) where
+      asked : (L : ℕ) (b : List ℕ) (q : Question) → Back words refusal answer words-refused (answered (value (valueOf b q))) →
+          Back words refusal answer words-refused (ask L b q)
+      unfolding ask given
+      asked L b q h =
+          back-unless words refusal answer words-refused _ _ (both _ _ (before-numbered L q) (judged-numbered L b)) (at (caseOf (since q) (onWhole q) L (version b)))
+        where
+          at : (c : Case) → Back words refusal answer words-refused (answered (saidCase c (valueOf b q)))
+          at Case·.NotKnown = of-not-known
+          at Case·.Absent = of-absent
+          at Case·.Value = h
 
 pub number-said : (L : ℕ) (b : List ℕ) (q : Question) → kindOf q ≡ of-number → numberSaid (numberWords (ask L b q)) ≡ ask L b q
 unfolding valueOf numberWords membersOf outcomeRefusal

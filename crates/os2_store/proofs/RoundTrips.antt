@@ -74,31 +74,31 @@ written xs r v n x e rest =
 
 -- ---- the numbers in a table are written as its own bytes
 
-module _ (b : List ℕ) (bytes : Bytes b) (most : version b ≤ newest) (sized : tableSize (version b) ≤ length b) (ruled : Rules (valuesOf (raw b)))
-    (xs : List ℤ) (holds : (k : ℕ) → InVersion (version b) k → numberFor xs k ≡ valueIn b (fieldOf k)) where
-  code-is : (k : ℕ) → InVersion (version b) k → codeFor xs k ≡ raw b k
-  code-is k h = rw (holds k h) (code-read b (fieldOf k) (sign-width k (h .0)) bytes)
+module _ (b : List ℕ) (bytes : Bytes b) (most : version b ≤ newest) (sized : tableSize (version b) ≤ length b) (ruled : Rules (valuesOf (raw b))) where
+  module _ (xs : List ℤ) (holds : (k : ℕ) → InVersion (version b) k → numberFor xs k ≡ valueIn b (fieldOf k)) where
+    code-is : (k : ℕ) → InVersion (version b) k → codeFor xs k ≡ raw b k
+    code-is k h = rw (holds k h) (code-read b (fieldOf k) (sign-width k (h .0)) bytes)
 
-  first-number : numberFor xs 0 ≡ pos (version b)
-  unfolding fieldOf catalogue
-  first-number = holds 0 (omega arith, omega arith) ∙ value-plain b (fieldOf 0) refl
+    first-number : numberFor xs 0 ≡ pos (version b)
+    unfolding fieldOf catalogue
+    first-number = holds 0 (omega arith, omega arith) ∙ value-plain b (fieldOf 0) refl
 
-  first-code : versionFor xs ≡ version b
-  first-code = code-version xs (version b) first-number
+    first-code : versionFor xs ≡ version b
+    first-code = code-version xs (version b) first-number
 
-  fits-all : firstOf (misfitAt (version b) xs) fieldCount ≡ none
-  fits-all =
-      misfits-none (version b) xs fieldCount .1 (λ k h s. rw (holds k (h, s)) (fits-read b (fieldOf k) (sign-width k h) bytes))
+    fits-all : firstOf (misfitAt (version b) xs) fieldCount ≡ none
+    fits-all =
+        misfits-none (version b) xs fieldCount .1 (λ k h s. rw (holds k (h, s)) (fits-read b (fieldOf k) (sign-width k h) bytes))
 
-  kept : verdictOf (valuesOf (codeFor xs)) ≡ none
-  kept = rw (← values-same (version b) xs b (λ k h. sym (code-is k h)) first-code) (kept-exactly (valuesOf (raw b)) .1 ruled)
+    kept : verdictOf (valuesOf (codeFor xs)) ≡ none
+    kept = rw (← values-same (version b) xs b (λ k h. sym (code-is k h)) first-code) (kept-exactly (valuesOf (raw b)) .1 ruled)
 
-  answers : (r : ℕ) → tableSize (version b) ≤ r → write xs r ≡ answered (tableSize (version b))
-  unfolding write unwritten unless when _then_ noVersion noRoom
-  answers r h = rw (kept, first-code, first-number, le-ltb newest (version b) most, le-ltb r (tableSize (version b)) h, fits-all)
+    answers : (r : ℕ) → tableSize (version b) ≤ r → write xs r ≡ answered (tableSize (version b))
+    unfolding write unwritten unless when _then_ noVersion noRoom
+    answers r h = rw (kept, first-code, first-number, le-ltb newest (version b) most, le-ltb r (tableSize (version b)) h, fits-all)
 
-  pub same-bytes : (r : List ℕ) → tableSize (version b) ≤ length r →
-      (write xs (length r) ≡ answered (tableSize (version b))) × Holds (version b) b r (roomAfter xs r)
-  same-bytes r h =
-      let e = answers (length r) h in
-      (e, rw (room-written xs r (tableSize (version b)) e, first-code) (image-holds (version b) xs r h b bytes code-is most sized))
+    pub same-bytes : (r : List ℕ) → tableSize (version b) ≤ length r →
+        (write xs (length r) ≡ answered (tableSize (version b))) × Holds (version b) b r (roomAfter xs r)
+    same-bytes r h =
+        let e = answers (length r) h in
+        (e, rw (room-written xs r (tableSize (version b)) e, first-code) (image-holds (version b) xs r h b bytes code-is most sized))
