@@ -138,7 +138,7 @@ module _ (l : List ℕ) where
     where
       there : firstNumber l ≡ some (record { major = a; minor = b }) → First l a b
       there e =
-          let r = first-exactly (numberAt l) (length l) _ .0 e in
+          let r = first-exactly _ _ _ .0 e in
           record {
             start = r .place;
             here = qualifies l (r .place) a b .0 (r .here);
