@@ -4,7 +4,9 @@ use Prim.Native.Nat.{ℕ}
 use mathlib.Core.Path.{_≡_}
 use mathlib.Core.List.{List, [], _∷_}
 use Rattle.name_layout.specs.Layout.{format, count, storage, platform, encoding, language, nameId, recordsEnd, tagCount, tagAt, tagsEnd}
-use Rattle.name_layout.specs.Layout.{textAt, stringLength, stringStart, stringEnd, bytesOf}
+use Rattle.name_layout.specs.Layout.{textAt, stringLength, stringStart, stringEnd, recordIn, bytesOf}
+use Rattle.name_layout.specs.Keys.{packed}
+use Rattle.name_layout.specs.declared.Record.{Record}
 
 abbrev pub written : List ℕ
 written =
@@ -33,10 +35,17 @@ key t i = platform t i ∷ encoding t i ∷ language t i ∷ nameId t i ∷ []
 abbrev pub text : List ℕ → ℕ → List ℕ
 text t at = stringStart t at ∷ stringLength t at ∷ stringEnd t at ∷ []
 
+-- a record of the code, part by part
+abbrev pub parts : Record → List ℕ
+parts r = r .platform ∷ r .encoding ∷ r .language ∷ r .name ∷ r .length ∷ r .offset ∷ []
+
 pub record ReadsEach : Type 0 where
   pub first : head written ≡ 33154 ∷ 2 ∷ 41 ∷ 30 ∷ 2 ∷ 40 ∷ []
   pub key-0 : key written 0 ≡ 37266 ∷ 37780 ∷ 38294 ∷ 38808 ∷ []
   pub key-1 : key written 1 ≡ 41378 ∷ 41892 ∷ 42406 ∷ 42920 ∷ []
+  pub record-0 : parts (recordIn written 0) ≡ 37266 ∷ 37780 ∷ 38294 ∷ 38808 ∷ 3 ∷ 1 ∷ []
+  pub record-1 : parts (recordIn written 1) ≡ 41378 ∷ 41892 ∷ 42406 ∷ 42920 ∷ 2 ∷ 4 ∷ []
+  pub packed-1 : packed (record { platform = 1; encoding = 2; language = 3; name = 4 }) ≡ 281483566841860
   pub text-0 : text written (textAt 0) ≡ 42 ∷ 3 ∷ 45 ∷ []
   pub text-1 : text written (textAt 1) ≡ 45 ∷ 2 ∷ 47 ∷ []
   pub bytes-0 : bytesOf written 0 ≡ 98 ∷ 99 ∷ 100 ∷ []

@@ -1,2 +1,3 @@
 pub mod Halvings
 pub mod Finds
+pub mod Rows

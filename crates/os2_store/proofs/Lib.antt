@@ -7,3 +7,4 @@ pub mod Bounds
 pub mod WriteSettling
 pub mod Signs
 pub mod Steps
+pub mod Rows
