@@ -5,14 +5,14 @@ use Prim.Native.Nat.{ℕ}
 use mathlib.Core.Path.{_≡_, refl}
 use mathlib.Core.Option.{Option, none, some}
 use mathlib.Core.List.{List, [], _∷_, map}
-use Rattle.outcomes.specs.Outcomes.{refused, answered}
+use Rattle.outcomes.specs.Outcomes.{Refusal, refused, answered}
 use Rattle.os2_acceptance.specs.declared.Refusal.the-variants as Reader·
 use Rattle.os2_writer.specs.declared.Written.the-variants as Written·
 use Rattle.os2_writer.specs.declared.Rewritten.{Rewritten}
 use Rattle.os2_writer.specs.declared.Rewritten.the-variants.{Size, Unread, Unwritten}
 use Rattle.os2_writer.specs.declared.WriteRefusal.{WriteRefusal}
 use Rattle.os2_writer.specs.declared.WriteRefusal.the-variants.{NoVersion, NoRoom, DoesNotFit, RuleBroken}
-use Rattle.os2_writer.specs.Rewriting.{reader, writer}
+use Rattle.os2_writer.specs.Rewriting.{Side, reader, writer, sideWith}
 use Rattle.os2_writer.specs.Replies.{saidRefusal, saidWritten, saidRewritten, sideOf}
 
 abbrev refusals : List WriteRefusal
@@ -37,3 +37,6 @@ rewritten-says = refl
 
 pub rewritten-sides : map sideOf rewritings ≡ writer ∷ reader ∷ reader ∷ writer ∷ writer ∷ []
 rewritten-sides = refl
+
+pub sides : (r : Refusal) → map sideWith (some r ∷ none ∷ []) ≡ reader ∷ writer ∷ []
+sides r = refl
