@@ -4,6 +4,7 @@ use Prim.Native.Nat.{ℕ}
 use mathlib.Core.Path.{_≡_, refl}
 use mathlib.Core.Option.{Option, none, some}
 use mathlib.Core.List.{List, [], _∷_, map}
+use Rattle.outcomes.specs.Outcomes.{answered}
 use Rattle.name.specs.declared.Refusal.the-variants.{TooShort, UnknownFormat, RecordsPastEnd, TagsPastEnd, StorageMisplaced}
 use Rattle.name.specs.declared.Refusal.the-variants.{RecordString, TagString, KeyNotAbove, LanguageRefused}
 use Rattle.name.specs.declared.Refusal.{Refusal}
@@ -11,8 +12,9 @@ use Rattle.name_answers.specs.declared.PostscriptRefusal.{PostscriptRefu
 use Rattle.name_answers.specs.declared.PostscriptRefusal.the-variants as Postscript·
 use Rattle.name_answers.specs.declared.VersionRefusal.{VersionRefusal}
 use Rattle.name_answers.specs.declared.VersionRefusal.the-variants as Version·
+use Rattle.name_answers.specs.declared.VersionAnswer.the-variants.{Number}
 use Rattle.name_answers.specs.Names.{saidNameRefusal}
-use Rattle.name_answers.specs.Versions.{saidVersionRefusal}
+use Rattle.name_answers.specs.Versions.{saidVersionRefusal, saidVersion}
 
 -- the table's own, 10 to 18, are passed on with what they carry
 abbrev tables : List Refusal
@@ -55,3 +57,6 @@ version-numbers = refl
 
 pub version-carries : map (λ r. saidVersionRefusal r .carried) versions ≡ none ∷ none ∷ []
 version-carries = refl
+
+pub version-said : (a b : ℕ) → saidVersion (Number a b) ≡ answered (record { major = a; minor = b })
+version-said a b = refl
