@@ -2,7 +2,7 @@
 -- Assumes nothing.
 use Prim.Native.Nat.{ℕ, zero, suc, _+_, _-_, _/_, _%_, _≤_, _<_}
 use mathlib.Core.Path.{_≡_, refl, sym, _∙_, ap}
-use mathlib.Core.Logic.{_⊎_, _↔_}
+use mathlib.Core.Logic.{_↔_}
 use mathlib.Core.Bool.{Bool, true, false}
 use mathlib.Core.Option.{Option, none, some}
 use mathlib.Core.List.{List}
@@ -15,17 +15,18 @@ use Rattle.outcomes.specs.Firsts.{when}
 use Rattle.outcomes.specs.Outcomes.{Refusal, Outcome, refused, accepted, unless}
 use Rattle.outcomes.proofs.Laws.{when-none, then-none, passed, first-all, unless-answered, unless-refused, unless-own, Only, only-when, only-then, only-first}
 use Rattle.outcomes.proofs.Tests.{at-most}
-use Rattle.name_layout.specs.Layout.{format, count, storage, recordAt, textAt, recordsEnd, tagCount, tagAt, tagsEnd, stringEnd}
+use Rattle.name_layout.specs.Layout.{count, storage, recordAt, textAt, tagCount, tagAt, stringEnd}
 use Rattle.name_layout.specs.Keys.{keyOf, packed}
 use Rattle.name_layout.proofs.Keys.{key-small, packed-order, key-language, text-halves}
+use Rattle.name_tests.specs.Tests.{stringPasses, languageRefused, notAbove}
+use Rattle.name_tests.specs.Steps.{Framed}
+use Rattle.name_tests.proofs.Tests.{long, format-known, records-within, tags-within, storage-placed, string-fits, above, language-below}
 use Rattle.name.specs.declared.Refusal as code
 use Rattle.name.specs.declared.Verdict.{Verdict}
 use Rattle.name.specs.declared.Verdict.the-variants.{Accepted, Refused}
 use Rattle.name.specs.Refusals.{saidRefusal, saidCheck}
-use Rattle.name.specs.Acceptance.{stringPasses, languageRefused, notAbove, layoutFault, recordFault, tagFault, faults, checkOf}
+use Rattle.name.specs.Acceptance.{layoutFault, recordFault, tagFault, faults, checkOf}
 use Rattle.name.specs.Refusing.{Laid}
-use Rattle.name.specs.Steps.{Framed}
-use Rattle.name.proofs.Tests.{long, format-known, records-within, tags-within, storage-placed, string-fits, above, language-below}
 
 -- none of 15, 18, 17, by their tests
 pub record Sound (t : List ℕ) (i : ℕ) : Type 0 where

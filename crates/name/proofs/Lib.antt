@@ -1,4 +1,3 @@
-pub mod Tests
 pub mod Acceptances
 pub mod Theorems
 pub mod Refusings

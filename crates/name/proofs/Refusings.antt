@@ -1,53 +1,28 @@
 -- The check refuses with exactly the refusal that the order settles: each test is matched with its condition, from the first to the last, and back.
 -- Assumes nothing.
-use Prim.Native.Nat.{ℕ, zero, suc, _≤_, _<_}
+use Prim.Native.Nat.{ℕ, zero, suc, _<_}
 use mathlib.Core.Path.{_≡_, refl, sym, _∙_}
-use mathlib.Core.Logic.{_⊎_, inl, inr, ⊎-elim, _↔_}
+use mathlib.Core.Logic.{inl, inr, ⊎-elim, _↔_}
 use mathlib.Core.Bool.{true, false, false≢true}
 use mathlib.Core.Option.{none, some}
 use mathlib.Core.List.{List}
-use native.Mathlib.Omega.{arith}
-use lib.ListN.{length}
 use Rattle.outcomes.specs.Firsts.{firstOf, IsFirst}
 use Rattle.outcomes.specs.Outcomes.{Refusal, carrying}
-use Rattle.outcomes.proofs.Laws.{when-none, when-some, then-some, met, first-all, first-exactly, unless-refused}
-use Rattle.outcomes.proofs.Tests.{below, or-true, holds}
-use Rattle.name_layout.specs.Layout.{count, storage, textAt, recordsEnd, tagCount, tagAt, tagsEnd, stringEnd}
+use Rattle.outcomes.proofs.Laws.{when-some, then-some, met, first-all, first-exactly, unless-refused}
+use Rattle.outcomes.proofs.Tests.{holds}
+use Rattle.name_layout.specs.Layout.{count, textAt, tagCount}
 use Rattle.name_layout.specs.Keys.{keyOf, KeyBelow}
-use Rattle.name.specs.Acceptance.{tooShort, otherFormat, recordsPass, tagsPass, misplaced, stringPasses, languageRefused, notAbove, layoutFault, recordFault, tagFault, faults, checkOf}
-use Rattle.name.specs.Acceptable.{LanguageAllowed}
+use Rattle.name_tests.specs.Tests.{notAbove}
+use Rattle.name_tests.specs.Languages.{LanguageAllowed}
+use Rattle.name_tests.proofs.Tests.{long, short, format-known, records-within, records-past, tags-within, tags-past, storage-misplaced, string-fits, string-past}
+use Rattle.name_tests.proofs.Tests.{first-above, above, language-fits}
+use Rattle.name.specs.Acceptance.{layoutFault, recordFault, tagFault, faults, checkOf}
 use Rattle.name.specs.Refusing as table
 use Rattle.name.specs.Refusing.{Known, Laid, Fits, Sound, SoundBelow, Refused, RefusedExactlyWhen}
-use Rattle.name.proofs.Tests.{long, format-known, records-within, tags-within, storage-placed, string-fits, first-above, above, language-fits}
 use Rattle.name.proofs.Acceptances as tests
 use Rattle.name.proofs.Acceptances.{layout-none, record-none, tag-none}
 
 module _ (t : List ℕ) where
-  -- ---- the tests that hold, and their conditions
-
-  short : (tooShort t ≡ true) ↔ (length t < 6)
-  unfolding tooShort
-  short = below (length t) 6
-
-  records : (recordsPass t ≡ true) ↔ (length t < recordsEnd t)
-  unfolding recordsPass
-  records = below (length t) (recordsEnd t)
-
-  tags : (tagsPass t ≡ true) ↔ (length t < tagsEnd t)
-  unfolding tagsPass
-  tags = below (length t) (tagsEnd t)
-
-  storage-misplaced : (misplaced t ≡ true) ↔ ((storage t < tagsEnd t) ⊎ (length t < storage t))
-  unfolding misplaced
-  storage-misplaced = (
-    λ e. ⊎-elim (λ p. inl (below _ _ .0 p)) (λ p. inr (below _ _ .0 p)) (or-true _ _ .0 e),
-    λ s. or-true _ _ .1 (⊎-elim (λ p. inl (below _ _ .1 p)) (λ p. inr (below _ _ .1 p)) s),
-  )
-
-  string : (at : ℕ) → (stringPasses t at ≡ true) ↔ (length t < stringEnd t at)
-  unfolding stringPasses
-  string at = below (length t) (stringEnd t at)
-
   -- a record without a fault is sound
   sound : Known t → (i : ℕ) → (recordFault t i ≡ none) ↔ Sound t i
   sound k i = (λ e. there (record-none t i .0 e), λ s. record-none t i .1 (back i s))
@@ -70,15 +45,15 @@ module _ (t : List ℕ) where
   layout-refused : (r : Refusal) → layoutFault t ≡ some r → Refused t r
   unfolding layoutFault
   layout-refused r e =
-      ⊎-elim (λ p. rw (← p .1) (table.too-short (short .0 (p .0)))) (λ p.
+      ⊎-elim (λ p. rw (← p .1) (table.too-short (short t .0 (p .0)))) (λ p.
       let a = long t .0 (p .0) in
       ⊎-elim (λ q. rw (← q .1) (table.other-format a (holds _ (format-known t) .0 (q .0)))) (λ q.
       let b = format-known t .0 (q .0) in
-      ⊎-elim (λ u. rw (← u .1) (table.records-pass a b (records .0 (u .0)))) (λ u.
+      ⊎-elim (λ u. rw (← u .1) (table.records-pass a b (records-past t .0 (u .0)))) (λ u.
       let c = records-within t .0 (u .0) in
-      ⊎-elim (λ v. rw (← v .1) (table.tags-pass a b c (tags .0 (v .0)))) (λ v.
+      ⊎-elim (λ v. rw (← v .1) (table.tags-pass a b c (tags-past t .0 (v .0)))) (λ v.
       let w = when-some _ _ _ .0 (v .1) in
-      rw (← w .1) (table.misplaced a b c (tags-within t .0 (v .0)) (storage-misplaced .0 (w .0))))
+      rw (← w .1) (table.misplaced a b c (tags-within t .0 (v .0)) (storage-misplaced t .0 (w .0))))
       (met _ _ _ _ .0 (u .1)))
       (met _ _ _ _ .0 (q .1)))
       (met _ _ _ _ .0 (p .1)))
@@ -87,7 +62,7 @@ module _ (t : List ℕ) where
   record-refused : (i : ℕ) → SoundBelow t i → i < count t → (r : Refusal) → recordFault t i ≡ some r → Refused t r
   unfolding recordFault
   record-refused i s h r e =
-      ⊎-elim (λ p. rw (← p .1) (table.string-passes s h (string _ .0 (p .0)))) (λ p.
+      ⊎-elim (λ p. rw (← p .1) (table.string-passes s h (string-past t _ .0 (p .0)))) (λ p.
       let a = string-fits t _ .0 (p .0) in
       ⊎-elim (λ q. rw (← q .1) (table.language-refused s h a (holds _ (language-fits t i (s .laid .known)) .0 (q .0)))) (λ q.
       let w = when-some _ _ _ .0 (q .1) in
@@ -116,7 +91,7 @@ module _ (t : List ℕ) where
           let f = first-exactly _ _ _ .0 (q .1) in
           let w = when-some _ _ _ .0 (f .here) in
           rw (← w .1)
-          (table.tag-passes (sound-below l (count t) (first-all _ _ .0 (q .0))) (f .inside) (λ j h. tag-none t j .0 (f .earlier j h)) (string _ .0 (w .0)))
+          (table.tag-passes (sound-below l (count t) (first-all _ _ .0 (q .0))) (f .inside) (λ j h. tag-none t j .0 (f .earlier j h)) (string-past t _ .0 (w .0)))
 
   -- ---- and back
 
@@ -133,20 +108,20 @@ module _ (t : List ℕ) where
 
   refused-fault : {r : Refusal} → Refused t r → faults t ≡ some r
   unfolding faults layoutFault recordFault tagFault
-  refused-fault (table.too-short a) = from-layout (met _ _ _ _ .1 (inl (short .1 a, refl)))
+  refused-fault (table.too-short a) = from-layout (met _ _ _ _ .1 (inl (short t .1 a, refl)))
   refused-fault (table.other-format a b) =
       from-layout (met _ _ _ _ .1 (inr (long t .1 a, met _ _ _ _ .1 (inl (holds _ (format-known t) .1 b, refl)))))
   refused-fault (table.records-pass a b c) =
-      let d = met _ _ _ _ .1 (inl (records .1 c, refl)) in
+      let d = met _ _ _ _ .1 (inl (records-past t .1 c, refl)) in
       from-layout (met _ _ _ _ .1 (inr (long t .1 a, met _ _ _ _ .1 (inr (format-known t .1 b, d)))))
   refused-fault (table.tags-pass a b c d) =
-      let e = met _ _ _ _ .1 (inr (records-within t .1 c, met _ _ _ _ .1 (inl (tags .1 d, refl)))) in
+      let e = met _ _ _ _ .1 (inr (records-within t .1 c, met _ _ _ _ .1 (inl (tags-past t .1 d, refl)))) in
       from-layout (met _ _ _ _ .1 (inr (long t .1 a, met _ _ _ _ .1 (inr (format-known t .1 b, e)))))
   refused-fault (table.misplaced a b c d e) =
-      let f = met _ _ _ _ .1 (inr (tags-within t .1 d, when-some _ _ _ .1 (storage-misplaced .1 e, refl))) in
+      let f = met _ _ _ _ .1 (inr (tags-within t .1 d, when-some _ _ _ .1 (storage-misplaced t .1 e, refl))) in
       let g = met _ _ _ _ .1 (inr (records-within t .1 c, f)) in
       from-layout (met _ _ _ _ .1 (inr (long t .1 a, met _ _ _ _ .1 (inr (format-known t .1 b, g)))))
-  refused-fault (table.string-passes {i} s h a) = from-record i s h (met _ _ _ _ .1 (inl (string _ .1 a, refl)))
+  refused-fault (table.string-passes {i} s h a) = from-record i s h (met _ _ _ _ .1 (inl (string-past t _ .1 a, refl)))
   refused-fault (table.language-refused {i} s h a b) =
       let l = holds _ (language-fits t i (s .laid .known)) .1 b in
       from-record i s h (met _ _ _ _ .1 (inr (string-fits t _ .1 a, met _ _ _ _ .1 (inl (l, refl)))))
@@ -156,7 +131,7 @@ module _ (t : List ℕ) where
       from-record (suc j) s h (met _ _ _ _ .1 (inr (string-fits t _ .1 a, met _ _ _ _ .1 (inr (l, k)))))
   refused-fault (table.tag-passes {i} s h a b) =
       let f : IsFirst (tagFault t) (tagCount t) (carrying 16 i) =
-      record { place = i; inside = h; here = when-some _ _ _ .1 (string _ .1 b, refl); earlier = λ j l. tag-none t j .1 (a j l) } in
+      record { place = i; inside = h; here = when-some _ _ _ .1 (string-past t _ .1 b, refl); earlier = λ j l. tag-none t j .1 (a j l) } in
       let r = first-all _ _ .1 (λ j l. sound (s .laid .known) j .1 (s .sound j l)) in
       then-some _ _ _ .1 (inr (layout-none t .1 (s .laid), then-some _ _ _ .1 (inr (r, first-exactly _ _ _ .1 f))))
 

@@ -11,9 +11,10 @@ use Rattle.outcomes.specs.Outcomes.{accepted}
 use Rattle.outcomes.proofs.Laws.{unless-answered}
 use Rattle.name_layout.specs.Layout.{count, textAt}
 use Rattle.name_layout.proofs.Layouts.{tags-after, word-lt}
-use Rattle.name.specs.Acceptance.{notAbove, faults, checkOf}
+use Rattle.name_tests.specs.Tests.{notAbove}
+use Rattle.name_tests.proofs.Tests.{string-fits, first-above, above, language-fits}
+use Rattle.name.specs.Acceptance.{faults, checkOf}
 use Rattle.name.specs.Acceptable.{Acceptable, AcceptedExactlyWhen, AtMost5460}
-use Rattle.name.proofs.Tests.{string-fits, first-above, above, language-fits}
 use Rattle.name.proofs.Acceptances.{Passed, no-fault}
 
 pub acceptable : (t : List ℕ) → (faults t ≡ none) ↔ Acceptable t

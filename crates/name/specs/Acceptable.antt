@@ -1,18 +1,14 @@
 -- "Accepted exactly when", in plain propositions over every record and tag.
-use Prim.Native.Nat.{ℕ, suc, _+_, _≤_, _<_}
+use Prim.Native.Nat.{ℕ, suc, _≤_, _<_}
 use mathlib.Core.Path.{_≡_}
 use mathlib.Core.Logic.{_⊎_, _↔_}
 use mathlib.Core.List.{List}
 use lib.ListN.{length}
 use Rattle.bigendian.specs.Numbers.{Bytes}
 use Rattle.outcomes.specs.Outcomes.{Outcome, accepted}
-use Rattle.name_layout.specs.Layout.{format, count, storage, platform, language, textAt, recordsEnd, tagCount, tagAt, tagsEnd, stringEnd}
+use Rattle.name_layout.specs.Layout.{format, count, storage, textAt, recordsEnd, tagCount, tagAt, tagsEnd, stringEnd}
 use Rattle.name_layout.specs.Keys.{keyOf, KeyBelow}
-
--- the language of record i is allowed
-pub record LanguageAllowed (t : List ℕ) (i : ℕ) : Type 0 where
-  pub format0 : format t ≡ 0 → 32768 ≤ language t i → (240 ≤ platform t i) × (platform t i ≤ 255)
-  pub format1 : format t ≡ 1 → 32768 ≤ language t i → language t i < 32768 + tagCount t
+use Rattle.name_tests.specs.Languages.{LanguageAllowed}
 
 -- none of the conditions of 10 to 18 holds, in the order of their numbers
 pub record Acceptable (t : List ℕ) : Type 0 where

@@ -2,4 +2,3 @@ pub mod Refusals
 pub mod Acceptance
 pub mod Acceptable
 pub mod Refusing
-pub mod Steps

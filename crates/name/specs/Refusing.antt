@@ -8,7 +8,7 @@ use lib.ListN.{length}
 use Rattle.outcomes.specs.Outcomes.{Refusal, bare, carrying, Outcome, refused}
 use Rattle.name_layout.specs.Layout.{format, count, storage, textAt, recordsEnd, tagCount, tagAt, tagsEnd, stringEnd}
 use Rattle.name_layout.specs.Keys.{keyOf, KeyBelow}
-use Rattle.name.specs.Acceptable.{LanguageAllowed}
+use Rattle.name_tests.specs.Languages.{LanguageAllowed}
 
 -- not 11
 abbrev pub Known : List ℕ → Type 0

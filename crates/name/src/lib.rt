@@ -1,21 +1,27 @@
 // The check of a 'name' table: whether it is accepted, and why not.
-// Document 01, the refusals 10 to 18 in their order. It relies on the table's layout and on the shared words for a refusal.
+// Document 01, the refusals 10 to 18 in their order. It relies on the test of each, on the table's layout and on the shared words for a refusal.
 ghost use mathlib.Core.Path.{_≡_};
 ghost use mathlib.Core.Bool.{true, false};
 ghost use mathlib.Core.Option.{none};
 ghost use Prim.Native.Nat.{_+_, _/_, _%_, _≤_, _<_};
-ghost use lib.ListN.{length};
 ghost use Rattle.outcomes.specs.Firsts.{firstOf};
 ghost use Rattle.outcomes.specs.Outcomes.{refusalOf};
-ghost use Rattle.name_layout.specs.Layout.{count, recordAt, tagCount};
+ghost use Rattle.name_layout.specs.Layout.{count, tagCount};
+ghost use Rattle.name_tests.specs.Steps.{Framed};
 ghost use Rattle.name.specs.Refusals.{saidRefusal, saidFault, saidCheck};
-ghost use Rattle.name.specs.Acceptance.{tooShort, otherFormat, recordsPass, tagsPass, misplaced, stringPasses, forbidden, languageRefused, notAbove, layoutFault, recordFault, tagFault, checkOf};
-ghost use Rattle.name.specs.Steps.{Framed};
-use name_layout::format_number;
+ghost use Rattle.name.specs.Acceptance.{layoutFault, recordFault, tagFault, checkOf};
 use name_layout::key_at;
 use name_layout::record_count;
 use name_layout::storage_start;
 use name_layout::tag_count;
+use name_tests::language_refused;
+use name_tests::not_above;
+use name_tests::other_format;
+use name_tests::records_pass;
+use name_tests::storage_misplaced;
+use name_tests::string_passes;
+use name_tests::tags_pass;
+use name_tests::too_short;
 use outcomes::Carried;
 use outcomes::Told;
 
@@ -249,88 +255,4 @@ fn tag_fault(table: &[u8], i: usize) -> Verdict
         return Verdict::Refused(Refusal::TagString(i));
     }
     Verdict::Accepted
-}
-
-// Whether the table ends before its three first numbers do.
-fn too_short(table: &[u8]) -> bool
-    ensures { λ r. ⌜ r ≡ tooShort (now (table .entry)) ⌝ }
-{
-    table.len() < 6
-}
-
-// Whether the format is neither 0 nor 1.
-fn other_format(table: &[u8]) -> bool
-    requires { ⌜ 6 ≤ length (now table) ⌝ }
-    ensures { λ r. ⌜ r ≡ otherFormat (now (table .entry)) ⌝ }
-{
-    1 < format_number(table)
-}
-
-// Whether the name records pass the table's end.
-fn records_pass(table: &[u8]) -> bool
-    requires { ⌜ 6 ≤ length (now table) ⌝ }
-    ensures { λ r. ⌜ r ≡ recordsPass (now (table .entry)) ⌝ }
-{
-    table.len() < name_layout::records_end(table)
-}
-
-// Whether the tag count or the tags pass the table's end.
-fn tags_pass(table: &[u8]) -> bool
-    requires { ⌜ 6 ≤ length (now table) ⌝ }
-    ensures { λ r. ⌜ r ≡ tagsPass (now (table .entry)) ⌝ }
-{
-    table.len() < name_layout::tags_start(table) || table.len() < name_layout::tags_end(table)
-}
-
-// Whether the storage starts among the records and tags, or past the table's end.
-fn storage_misplaced(table: &[u8]) -> bool
-    requires { ⌜ Framed (now table) ⌝ }
-    ensures { λ r. ⌜ r ≡ misplaced (now (table .entry)) ⌝ }
-{
-    let start = storage_start(table) as usize;
-    start < name_layout::tags_end(table) || table.len() < start
-}
-
-// Whether the string of the length and offset at a place passes the table's end.
-fn string_passes(table: &[u8], at: usize) -> bool
-    requires { ⌜ (6 ≤ length (now table)) × (at + 4 ≤ length (now table)) ⌝ }
-    ensures { λ r. ⌜ r ≡ stringPasses (now (table .entry)) at ⌝ }
-{
-    let start = name_layout::string_start(table, at);
-    table.len() < start + name_layout::string_length(table, at) as usize
-}
-
-// Whether the language number of record i is not allowed.
-fn language_refused(table: &[u8], i: usize) -> bool
-    requires { ⌜ Framed (now table) × (i < count (now table)) ⌝ }
-    ensures { λ r. ⌜ r ≡ languageRefused (now (table .entry)) i ⌝ }
-{
-    let here = name_layout::record_at(table, i);
-    forbidden(
-        format_number(table),
-        tag_count(table),
-        here.platform,
-        here.language,
-    )
-}
-
-// Whether a language number is not allowed on a platform, in a format with this many tags.
-fn forbidden(format: u16, tags: u16, platform: u16, language: u16) -> bool
-    ensures { λ r. ⌜ r ≡ forbidden format tags platform language ⌝ }
-{
-    if language < 0x8000 {
-        return false;
-    }
-    if format == 0 {
-        return platform < 240 || 255 < platform;
-    }
-    0x8000 + tags as u32 <= language as u32
-}
-
-// Whether record i follows one whose key is not below its own.
-fn not_above(table: &[u8], i: usize) -> bool
-    requires { ⌜ recordAt i + 12 ≤ length (now table) ⌝ }
-    ensures { λ r. ⌜ r ≡ notAbove (now (table .entry)) i ⌝ }
-{
-    0 < i && !(key_at(table, i - 1) < key_at(table, i))
 }

@@ -9,7 +9,7 @@ use Rattle.characters.specs.Strings.{char, odd}
 use Rattle.charset.specs.Allowed.{allowed}
 use Rattle.name_layout.specs.Layout.{tagCount, tagsAt, bytesOf}
 use Rattle.name_layout.specs.Keys.{keyOf, same, below}
-use Rattle.name.specs.Acceptance.{tooShort, otherFormat, recordsPass, tagsPass, misplaced, stringPasses, forbidden, languageRefused, notAbove}
+use Rattle.name_tests.specs.Tests.{tooShort, otherFormat, recordsPass, tagsPass, misplaced, stringPasses, forbidden, languageRefused, notAbove}
 use Rattle.name.specs.Acceptance.{layoutFault, recordFault, tagFault, faults}
 use Rattle.name_search.specs.Searches.{recordWith, textOf}
 use Rattle.name_answers.specs.Forms.{tooFew, tooMany, wrongCount, otherAt, illFormed, differAt, differ}

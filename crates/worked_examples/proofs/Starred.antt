@@ -18,7 +18,8 @@ use Rattle.os2_answers.specs.Questions.{ownRefusal, since, onWhole}
 use Rattle.os2_answers.specs.Asking.{valueOf, above, unknown, caseOf, given, beforeTable, ask}
 use Rattle.name_layout.specs.Keys.{Key}
 use Rattle.name_layout.specs.Layout.{tagCount, tagsAt}
-use Rattle.name.specs.Acceptance.{tooShort, otherFormat, recordsPass, tagsPass, misplaced, layoutFault, faults}
+use Rattle.name_tests.specs.Tests.{tooShort, otherFormat, recordsPass, tagsPass, misplaced}
+use Rattle.name.specs.Acceptance.{layoutFault, faults}
 use Rattle.name_search.specs.Searches.{recordWith}
 use Rattle.name_lookup.specs.Answers.{lookupOf}
 use Rattle.version_text.specs.Versions.{versionIn, numberAt, isNumber, mayStart, small, groupFigure, figure, groupEnd, digits, period}

@@ -7,9 +7,9 @@ use borrow.Author.Needs.{needs}
 use Rattle.outcomes.specs.Firsts.{_then_, firstOf}
 use Rattle.outcomes.specs.Outcomes.{accepted, unless}
 use Rattle.name_layout.specs.Layout.{count}
+use Rattle.name_tests.specs.Steps.{Framed}
 use Rattle.name.specs.Refusals.{saidFault}
 use Rattle.name.specs.Acceptance.{layoutFault, recordFault, faults}
-use Rattle.name.specs.Steps.{Framed}
 use Rattle.name.proofs.Acceptances.{layout-none, framed}
 use Rattle.name.proofs.check.Statement.{statement}
 use Rattle.name.proofs.check.Tie as tie

@@ -5,8 +5,9 @@ use mathlib.Core.Bool.{false}
 use denote.Ref.{now}
 use borrow.Author.Needs.{needs}
 use Rattle.outcomes.proofs.Laws.{when-none, when-some, here, past}
-use Rattle.name.specs.Acceptance.{tooShort, otherFormat, recordsPass, tagsPass, layoutFault}
-use Rattle.name.proofs.Tests.{long, records-within, tags-within}
+use Rattle.name_tests.specs.Tests.{tooShort, otherFormat, recordsPass, tagsPass}
+use Rattle.name_tests.proofs.Tests.{long, records-within, tags-within}
+use Rattle.name.specs.Acceptance.{layoutFault}
 use Rattle.name.proofs.layout_fault.Statement.{statement}
 use Rattle.name.proofs.layout_fault.Tie as tie
 

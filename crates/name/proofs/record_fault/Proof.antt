@@ -6,7 +6,8 @@ use denote.Ref.{now}
 use borrow.Author.Needs.{needs}
 use Rattle.outcomes.proofs.Laws.{when-none, when-some, here, past}
 use Rattle.name_layout.specs.Layout.{textAt}
-use Rattle.name.specs.Acceptance.{stringPasses, languageRefused, recordFault}
+use Rattle.name_tests.specs.Tests.{stringPasses, languageRefused}
+use Rattle.name.specs.Acceptance.{recordFault}
 use Rattle.name.proofs.record_fault.Statement.{statement}
 use Rattle.name.proofs.record_fault.Tie as tie
 

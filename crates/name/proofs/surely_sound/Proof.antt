@@ -13,7 +13,7 @@ use Rattle.bigendian.specs.Numbers.{number, Bytes}
 use Rattle.outcomes.proofs.Laws.{first-all}
 use Rattle.name_layout.specs.Layout.{storage, textAt, tagCount}
 use Rattle.name_layout.specs.Keys.{keyOf, packed}
-use Rattle.name.proofs.Tests.{order-ok}
+use Rattle.name_tests.proofs.Tests.{order-ok}
 use Rattle.name.proofs.Acceptances.{Rise, FitAndSpeak, fit-more, faultless, in-limits}
 use Rattle.name.proofs.surely_sound.Statement.{statement}
 use Rattle.name.proofs.surely_sound.Tie as tie

@@ -5,7 +5,8 @@ use denote.Ref.{now}
 use borrow.Author.Needs.{needs}
 use Rattle.outcomes.proofs.Laws.{when-none, when-some}
 use Rattle.name_layout.specs.Layout.{tagAt}
-use Rattle.name.specs.Acceptance.{stringPasses, tagFault}
+use Rattle.name_tests.specs.Tests.{stringPasses}
+use Rattle.name.specs.Acceptance.{tagFault}
 use Rattle.name.proofs.tag_fault.Statement.{statement}
 use Rattle.name.proofs.tag_fault.Tie as tie
 

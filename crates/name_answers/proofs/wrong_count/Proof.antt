@@ -1,6 +1,6 @@
 -- Each way decides the tests of the definition.
 -- Assumes nothing.
-use Rattle.name.proofs.Tests.{decided}
+use Rattle.name_tests.proofs.Tests.{decided}
 use Rattle.name_answers.specs.Forms.{tooFew, tooMany, wrongCount}
 use Rattle.name_answers.proofs.wrong_count.Statement.{statement}
 use Rattle.name_answers.proofs.wrong_count.Tie as tie

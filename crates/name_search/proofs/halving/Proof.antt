@@ -8,7 +8,7 @@ use borrow.Author.Needs.{needs}
 use Rattle.bigendian.specs.Numbers.{Bytes}
 use Rattle.name_layout.specs.Layout.{count}
 use Rattle.name_layout.specs.Keys.{keyOf, packed}
-use Rattle.name.specs.Steps.{Framed}
+use Rattle.name_tests.specs.Steps.{Framed}
 use Rattle.name.proofs.Acceptances.{accepted-framed}
 use Rattle.name.proofs.Theorems.{acceptable}
 use Rattle.name_search.specs.Searches.{recordNumbered}

@@ -1,10 +1,10 @@
 -- Each branch decides the definition's own tests.
 -- Assumes nothing.
 use borrow.Author.Needs.{needs}
-use Rattle.name.specs.Acceptance.{forbidden}
-use Rattle.name.proofs.Tests.{decided}
-use Rattle.name.proofs.forbidden.Statement.{statement}
-use Rattle.name.proofs.forbidden.Tie as tie
+use Rattle.name_tests.specs.Tests.{forbidden}
+use Rattle.name_tests.proofs.Tests.{decided}
+use Rattle.name_tests.proofs.forbidden.Statement.{statement}
+use Rattle.name_tests.proofs.forbidden.Tie as tie
 
 returns : tie.Need-returns
 unfolding forbidden

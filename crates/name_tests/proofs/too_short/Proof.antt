@@ -1,9 +1,9 @@
 -- The test is the definition's.
 -- Assumes nothing.
 use mathlib.Core.Path.{refl}
-use Rattle.name.specs.Acceptance.{tooShort}
-use Rattle.name.proofs.too_short.Statement.{statement}
-use Rattle.name.proofs.too_short.Tie as tie
+use Rattle.name_tests.specs.Tests.{tooShort}
+use Rattle.name_tests.proofs.too_short.Statement.{statement}
+use Rattle.name_tests.proofs.too_short.Tie as tie
 
 returns : tie.Need-returns
 unfolding tooShort

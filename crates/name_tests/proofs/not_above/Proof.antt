@@ -6,9 +6,9 @@ use borrow.Author.Tests.{lt-ltb, le-ltb}
 use borrow.Author.Needs.{needs}
 use Rattle.bigendian.specs.Numbers.{Bytes}
 use Rattle.name_layout.proofs.Keys.{key-small, below-packed}
-use Rattle.name.specs.Acceptance.{notAbove}
-use Rattle.name.proofs.not_above.Statement.{statement}
-use Rattle.name.proofs.not_above.Tie as tie
+use Rattle.name_tests.specs.Tests.{notAbove}
+use Rattle.name_tests.proofs.not_above.Statement.{statement}
+use Rattle.name_tests.proofs.not_above.Tie as tie
 
 returns : tie.Need-returns
 unfolding notAbove

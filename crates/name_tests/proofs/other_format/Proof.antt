@@ -1,9 +1,9 @@
 -- The test is the definition's, of the number that was read.
 -- Assumes nothing.
 use borrow.Author.Needs.{needs}
-use Rattle.name.specs.Acceptance.{otherFormat}
-use Rattle.name.proofs.other_format.Statement.{statement}
-use Rattle.name.proofs.other_format.Tie as tie
+use Rattle.name_tests.specs.Tests.{otherFormat}
+use Rattle.name_tests.proofs.other_format.Statement.{statement}
+use Rattle.name_tests.proofs.other_format.Tie as tie
 
 returns : tie.Need-returns
 unfolding otherFormat

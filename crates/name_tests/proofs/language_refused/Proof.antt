@@ -2,9 +2,9 @@
 -- Assumes nothing.
 use mathlib.Core.Path.{ap}
 use borrow.Author.Needs.{needs}
-use Rattle.name.specs.Acceptance.{languageRefused}
-use Rattle.name.proofs.language_refused.Statement.{statement}
-use Rattle.name.proofs.language_refused.Tie as tie
+use Rattle.name_tests.specs.Tests.{languageRefused}
+use Rattle.name_tests.proofs.language_refused.Statement.{statement}
+use Rattle.name_tests.proofs.language_refused.Tie as tie
 
 returns : tie.Need-returns
 unfolding languageRefused

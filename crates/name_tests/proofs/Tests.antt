@@ -1,9 +1,9 @@
--- What each refusal's test decides of a table; and the tests that a function decides on its way.
+-- What each refusal's test decides of a table, where it fails and where it holds; and the tests that a function decides on its way.
 -- Assumes nothing.
 use Prim.Native.Nat.{ℕ, zero, suc, _+_, _-_, _≤_, _<_}
 use mathlib.Core.Path.{_≡_, refl}
 use mathlib.Core.Logic.{_⊎_, inl, inr, ⊎-elim, _↔_}
-use mathlib.Core.Bool.{false}
+use mathlib.Core.Bool.{true, false}
 use mathlib.Core.List.{List}
 use native.Mathlib.Decide.{decLt, ℕ-discrete}
 use native.Mathlib.Omega.{arith}
@@ -11,13 +11,13 @@ use lib.ListN.{length}
 use borrow.Author.Needs.{needs}
 use borrow.Author.Tests.{lt-ltb, le-ltb, le-leb, lt-leb, eq-eqb, ne-eqb, leb-false, not-false}
 use Rattle.bigendian.specs.Numbers.{Bytes}
-use Rattle.outcomes.proofs.Tests.{not-below, or-false}
+use Rattle.outcomes.proofs.Tests.{below, not-below, or-false, or-true}
 use Rattle.name_layout.specs.Layout.{format, storage, platform, language, recordsEnd, tagCount, tagsEnd, stringEnd}
 use Rattle.name_layout.specs.Keys.{keyOf, KeyBelow, packed}
 use Rattle.name_layout.proofs.Layouts.{format-0}
 use Rattle.name_layout.proofs.Keys.{below-is, below-packed, key-small}
-use Rattle.name.specs.Acceptance.{tooShort, otherFormat, recordsPass, tagsPass, misplaced, stringPasses, forbidden, languageRefused, notAbove}
-use Rattle.name.specs.Acceptable.{LanguageAllowed}
+use Rattle.name_tests.specs.Tests.{tooShort, otherFormat, recordsPass, tagsPass, misplaced, stringPasses, forbidden, languageRefused, notAbove}
+use Rattle.name_tests.specs.Languages.{LanguageAllowed}
 
 -- for `search`: what closes a need, and the tests that the branches on the way decide
 pub ruleset decided = (needs, lt-ltb, le-ltb, le-leb, lt-leb, eq-eqb, ne-eqb)
@@ -26,6 +26,10 @@ module _ (t : List ℕ) where
   pub long : (tooShort t ≡ false) ↔ (6 ≤ length t)
   unfolding tooShort
   long = not-below (length t) 6
+
+  pub short : (tooShort t ≡ true) ↔ (length t < 6)
+  unfolding tooShort
+  short = below (length t) 6
 
   pub format-known : (otherFormat t ≡ false) ↔ ((format t ≡ 0) ⊎ (format t ≡ 1))
   unfolding otherFormat
@@ -39,9 +43,17 @@ module _ (t : List ℕ) where
   unfolding recordsPass
   records-within = not-below (length t) (recordsEnd t)
 
+  pub records-past : (recordsPass t ≡ true) ↔ (length t < recordsEnd t)
+  unfolding recordsPass
+  records-past = below (length t) (recordsEnd t)
+
   pub tags-within : (tagsPass t ≡ false) ↔ (tagsEnd t ≤ length t)
   unfolding tagsPass
   tags-within = not-below (length t) (tagsEnd t)
+
+  pub tags-past : (tagsPass t ≡ true) ↔ (length t < tagsEnd t)
+  unfolding tagsPass
+  tags-past = below (length t) (tagsEnd t)
 
   pub storage-placed : (misplaced t ≡ false) ↔ ((tagsEnd t ≤ storage t) × (storage t ≤ length t))
   unfolding misplaced
@@ -50,9 +62,20 @@ module _ (t : List ℕ) where
     λ p. or-false _ _ .1 (not-below _ _ .1 (p .0), not-below _ _ .1 (p .1)),
   )
 
+  pub storage-misplaced : (misplaced t ≡ true) ↔ ((storage t < tagsEnd t) ⊎ (length t < storage t))
+  unfolding misplaced
+  storage-misplaced = (
+    λ e. ⊎-elim (λ p. inl (below _ _ .0 p)) (λ p. inr (below _ _ .0 p)) (or-true _ _ .0 e),
+    λ s. or-true _ _ .1 (⊎-elim (λ p. inl (below _ _ .1 p)) (λ p. inr (below _ _ .1 p)) s),
+  )
+
   pub string-fits : (at : ℕ) → (stringPasses t at ≡ false) ↔ (stringEnd t at ≤ length t)
   unfolding stringPasses
   string-fits at = not-below (length t) (stringEnd t at)
+
+  pub string-past : (at : ℕ) → (stringPasses t at ≡ true) ↔ (length t < stringEnd t at)
+  unfolding stringPasses
+  string-past at = below (length t) (stringEnd t at)
 
   -- the first record follows none
   pub first-above : notAbove t 0 ≡ false

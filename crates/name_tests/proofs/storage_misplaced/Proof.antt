@@ -2,9 +2,9 @@
 -- Assumes nothing.
 use borrow.Author.Tests.{lt-ltb, le-ltb}
 use borrow.Author.Needs.{needs}
-use Rattle.name.specs.Acceptance.{misplaced}
-use Rattle.name.proofs.storage_misplaced.Statement.{statement}
-use Rattle.name.proofs.storage_misplaced.Tie as tie
+use Rattle.name_tests.specs.Tests.{misplaced}
+use Rattle.name_tests.proofs.storage_misplaced.Statement.{statement}
+use Rattle.name_tests.proofs.storage_misplaced.Tie as tie
 
 returns : tie.Need-returns
 unfolding misplaced

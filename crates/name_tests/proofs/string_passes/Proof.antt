@@ -5,9 +5,9 @@ use native.Mathlib.Omega.{arith}
 use borrow.Author.Needs.{needs}
 use Rattle.bigendian.specs.Numbers.{Bytes}
 use Rattle.name_layout.proofs.Layouts.{word-lt}
-use Rattle.name.specs.Acceptance.{stringPasses}
-use Rattle.name.proofs.string_passes.Statement.{statement}
-use Rattle.name.proofs.string_passes.Tie as tie
+use Rattle.name_tests.specs.Tests.{stringPasses}
+use Rattle.name_tests.proofs.string_passes.Statement.{statement}
+use Rattle.name_tests.proofs.string_passes.Tie as tie
 
 add-result : tie.Need-add-result
 add-result c =

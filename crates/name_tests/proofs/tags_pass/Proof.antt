@@ -7,9 +7,9 @@ use lib.ListN.{length}
 use borrow.Author.Tests.{lt-ltb}
 use borrow.Author.Needs.{needs}
 use Rattle.name_layout.specs.Layout.{tagsEnd}
-use Rattle.name.specs.Acceptance.{tagsPass}
-use Rattle.name.proofs.tags_pass.Statement.{statement}
-use Rattle.name.proofs.tags_pass.Tie as tie
+use Rattle.name_tests.specs.Tests.{tagsPass}
+use Rattle.name_tests.proofs.tags_pass.Statement.{statement}
+use Rattle.name_tests.proofs.tags_pass.Tie as tie
 
 returns : tie.Need-returns
 unfolding tagsPass

@@ -1,4 +1,4 @@
--- What the functions on the way to a verdict assume of a table.
+-- What the tests, and the functions that stand on them, assume of a table.
 use Prim.Native.Nat.{ℕ, _≤_}
 use mathlib.Core.List.{List}
 use lib.ListN.{length}

@@ -1,9 +1,9 @@
 -- The test is the definition's, of the number that was read.
 -- Assumes nothing.
 use borrow.Author.Needs.{needs}
-use Rattle.name.specs.Acceptance.{recordsPass}
-use Rattle.name.proofs.records_pass.Statement.{statement}
-use Rattle.name.proofs.records_pass.Tie as tie
+use Rattle.name_tests.specs.Tests.{recordsPass}
+use Rattle.name_tests.proofs.records_pass.Statement.{statement}
+use Rattle.name_tests.proofs.records_pass.Tie as tie
 
 returns : tie.Need-returns
 unfolding recordsPass

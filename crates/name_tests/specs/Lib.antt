@@ -1,0 +1,3 @@
+pub mod Tests
+pub mod Languages
+pub mod Steps
