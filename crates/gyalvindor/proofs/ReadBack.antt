@@ -1,34 +1,28 @@
--- From the words of C the answer can be read back, so they lose nothing: where `refusal.number` is 0 the call is answered, since no refusal has the
--- number 0, and each answer has its members.
+-- From the words of C what a whole call says can be read back, so they lose nothing: no refusal in any order has the number 0, and each answer has its
+-- members.
 -- Assumes nothing.
 use Prim.Native.Nat.{ℕ}
 use mathlib.Core.Path.{_≡_, refl}
 use mathlib.Core.Bool.{Bool, true, false, cond}
 use mathlib.Core.Option.{Option, none, some}
 use mathlib.Core.List.{List}
-use lib.Dec.{eqb, leb}
-use lib.ListN.{length}
+use lib.Dec.{leb}
 use lib.IntN.{ℤ}
 use native.Mathlib.Omega.{arith}
-use Rattle.outcomes.specs.Firsts.{when, _then_, firstOf}
-use Rattle.outcomes.specs.Outcomes.{Refusal, bare, Outcome, refused, answered, accepted, unless, refusing, foundOr}
+use Rattle.outcomes.specs.Firsts.{when, _then_}
+use Rattle.outcomes.specs.Outcomes.{Refusal, bare, Outcome, refused, answered, foundOr}
 use Rattle.outcomes.proofs.Laws.{Only, only-when, only-then, only-first}
-use Rattle.level.specs.Levels.{newest}
-use Rattle.characters.specs.Strings.{characters}
 use Rattle.name_layout.specs.Keys.{Key, keyFrom}
 use Rattle.name_layout.specs.Layout.{bytesOf}
-use Rattle.name_search.specs.declared.Text.{Text}
 use Rattle.name_search.specs.Searches.{recordWith, textOf}
 use Rattle.name.specs.Acceptance.{layoutFault, recordFault, tagFault, faults, checkOf}
 use Rattle.name_lookup.specs.Answers.{lookupOf}
 use Rattle.name_answers.specs.Forms.{otherAt, illFormed, differAt, differ}
 use Rattle.name_answers.specs.Names.{fromStrings, fromBoth, postscriptOf}
 use Rattle.name_answers.specs.Versions.{fromRecords, versionOf}
-use Rattle.version_text.specs.Versions.{Figures, firstNumber, versionIn}
 use Rattle.os2_rules.specs.declared.Values.{Values}
 use Rattle.os2_rules.specs.Tests.{verdictOf}
 use Rattle.os2_fields.specs.Fields.{raw, version, valuesOf}
-use Rattle.os2_style.specs.Style.{Sizes, every, upwards, between}
 use Rattle.os2_store.specs.Writing.{unwritten, write}
 use Rattle.os2_writer.specs.Rewriting.{unrewritten, rewritten}
 use Rattle.os2_acceptance.specs.Acceptance.{ruling, judged, checked}
@@ -36,47 +30,17 @@ use Rattle.os2_answers.specs.declared.Question.{Question}
 use Rattle.os2_answers.specs.declared.Question.the-variants.{Field, SelectionBit, UnicodeBit, CodePageBit, Rights, StylePosition, OpticalSizes}
 use Rattle.os2_answers.specs.declared.Case.{Case}
 use Rattle.os2_answers.specs.declared.Case.the-variants as Case·
-use Rattle.os2_answers.specs.Values.{Value, integer, rights, position, sizes, Said, value, absent, not-known}
+use Rattle.os2_answers.specs.Values.{integer, rights, position, sizes, Said, value, absent, not-known}
 use Rattle.os2_answers.specs.Questions.{ownRefusal, since, onWhole}
 use Rattle.os2_answers.specs.Asking.{valueOf, caseOf, saidCase, given, beforeTable, ask}
 use Rattle.os2.specs.Replies.{kindOf, of-number}
-use Rattle.gyalvindor.specs.declared.GvRefusal.{GvRefusal}
-use Rattle.gyalvindor.specs.declared.GvText.{GvText}
-use Rattle.gyalvindor.specs.declared.GvVersion.{GvVersion}
-use Rattle.gyalvindor.specs.declared.GvNumber.{GvNumber}
-use Rattle.gyalvindor.specs.declared.GvRights.{GvRights}
-use Rattle.gyalvindor.specs.declared.GvStyle.{GvStyle}
-use Rattle.gyalvindor.specs.declared.GvOptical.{GvOptical}
-use Rattle.gyalvindor.specs.declared.GvWritten.{GvWritten}
-use Rattle.gyalvindor.specs.Words.{refusalWords, outcomeRefusal, textWords, versionWords, membersOf, numberWords, rightsWords, styleWords, opticalWords, writtenWords}
-
--- ---- any struct
-
--- what a struct says, from its refusal and its answer
-abbrev pub said : {A : Type 0} → GvRefusal → A → Outcome A
-said w x = cond (eqb (w .number) 0) (answered x) (refused (w .number) (cond (eqb (w .carries) 0) none (some (w .carried))))
-
--- a refusal that has a number
-abbrev Numbered : Refusal → Type 0
-Numbered r = eqb (r .number) 0 ≡ false
-
-said-refused : {A : Type 0} (r : Refusal) (x : A) → Numbered r → said (refusalWords (r .number) (r .carried)) x ≡ refusing r
-said-refused r x h = at (r .carried)
-  where
-    at : (c : Option ℕ) → said (refusalWords (r .number) c) x ≡ refused (r .number) c
-    at none = rw h
-    at (some k) = rw h
-
--- an order of refusals that have numbers can be read back, where what comes after it can
-module _ {A W : Type 0} (words : Outcome A → W) (refusal : W → GvRefusal) (answer : W → A) where
-  module _ (words-refused : (n : ℕ) (c : Option ℕ) → refusal (words (refused n c)) ≡ refusalWords n c) where
-    abbrev Back : Outcome A → Type 0
-    Back o = said (refusal (words o)) (answer (words o)) ≡ o
-
-    back-unless : (r : Option Refusal) (o : Outcome A) → Only Numbered r → Back o → Back (unless r o)
-    unfolding unless
-    back-unless none o p h = h
-    back-unless (some r) o p h = rw (words-refused (r .number) (r .carried)) (said-refused r _ (p r refl))
+use Rattle.refusal_words.specs.declared.GvRefusal.{GvRefusal}
+use Rattle.refusal_words.specs.Words.{refusalWords, outcomeRefusal}
+use Rattle.refusal_words.proofs.ReadBack.{Numbered, Back, back-unless, checkSaid, check-back}
+use Rattle.name_words.specs.Words.{textWords, versionWords}
+use Rattle.name_words.proofs.ReadBack.{textSaid, text-back, versionSaid, version-back, number-back}
+use Rattle.os2_words.specs.Words.{membersOf, numberWords, rightsWords, styleWords, opticalWords, writtenWords}
+use Rattle.os2_words.proofs.ReadBack.{saidBy, numberSaid, rightsSaid, styleSaid, sizesIn, opticalSaid, sizes-back, writtenSaid, written-back}
 
 -- ---- the orders: no number is 0
 
@@ -95,6 +59,14 @@ faults-numbered t = both _ _ layout (both _ _ (only-first Numbered _ _ each) (on
 
     each : (i : ℕ) → Only Numbered (recordFault t i)
     each i = both _ _ (one _ _ refl) (both _ _ (one _ _ refl) (one _ _ refl))
+
+ill-numbered : (wide : Bool) (bytes : List ℕ) → Only Numbered (illFormed wide bytes)
+unfolding illFormed otherAt
+ill-numbered wide bytes = both _ _ (one _ _ refl) (both _ _ (one _ _ refl) (only-first Numbered _ _ (λ k. one _ _ refl)))
+
+differ-numbered : (first second : List ℕ) → Only Numbered (differ first second)
+unfolding differ differAt
+differ-numbered first second = both _ _ (one _ _ refl) (only-first Numbered _ _ (λ k. one _ _ refl))
 
 verdict-numbered : (v : Values) → Only Numbered (verdictOf v)
 unfolding verdictOf
@@ -126,13 +98,6 @@ before-numbered L q = both _ _ (one _ _ refl) (own q)
 
 -- ---- the checks
 
-abbrev pub checkSaid : GvRefusal → Outcome (Unit {0})
-checkSaid w = said w tt
-
-check-back : (r : Option Refusal) → Only Numbered r → checkSaid (outcomeRefusal (unless r accepted)) ≡ unless r accepted
-unfolding outcomeRefusal
-check-back r p = back-unless outcomeRefusal (λ w. w) (λ w. tt) (λ n c. refl) r accepted p refl
-
 pub name-check-said : (t : List ℕ) → checkSaid (outcomeRefusal (checkOf t)) ≡ checkOf t
 name-check-said t = check-back (faults t) (faults-numbered t)
 
@@ -141,16 +106,6 @@ unfolding checked
 os2-check-said L b = check-back _ (both _ _ (one _ _ refl) (judged-numbered L b))
 
 -- ---- 'name' questions
-
-abbrev textIn : GvText → Text
-textIn w = record { start = w .start; len = w .length }
-
-abbrev pub textSaid : GvText → Outcome Text
-textSaid w = said (w .refusal) (textIn w)
-
-text-back : (r : Option Refusal) (o : Outcome Text) → Only Numbered r → textSaid (textWords o) ≡ o → textSaid (textWords (unless r o)) ≡ unless r o
-unfolding textWords
-text-back r o p h = back-unless textWords (λ w. w .refusal) textIn (λ n c. refl) r o p h
 
 pub lookup-said : (t : List ℕ) (k : Key) → textSaid (textWords (lookupOf t k)) ≡ lookupOf t k
 unfolding lookupOf foundOr textWords
@@ -161,66 +116,25 @@ lookup-said t k = text-back (faults t) _ (faults-numbered t) (at (recordWith t k
     at (some i) = refl
 
 pub postscript-said : (t : List ℕ) → textSaid (textWords (postscriptOf t)) ≡ postscriptOf t
-unfolding postscriptOf fromBoth fromStrings illFormed otherAt differ differAt textWords
+unfolding postscriptOf fromBoth fromStrings textWords
 postscript-said t = text-back (faults t) _ (faults-numbered t) (at (recordWith t (keyFrom 1 0 0 6)) (recordWith t (keyFrom 3 1 1033 6)))
   where
     at : (p q : Option ℕ) → textSaid (textWords (fromBoth t p q)) ≡ fromBoth t p q
     at none none = refl
     at (some i) none = refl
     at none (some j) = refl
-    at (some i) (some j) = text-back _ _ (both _ _ (both _ _ (ill false (bytesOf t i)) (ill true (bytesOf t j))) unlike) refl
-      where
-        ill : (wide : Bool) (bytes : List ℕ) → Only Numbered (illFormed wide bytes)
-        ill wide bytes = both _ _ (one _ _ refl) (both _ _ (one _ _ refl) (only-first Numbered _ _ (λ k. one _ _ refl)))
-
-        unlike : Only Numbered (differ (characters false (bytesOf t i)) (characters true (bytesOf t j)))
-        unlike = both _ _ (one _ _ refl) (only-first Numbered _ _ (λ k. one _ _ refl))
-
-abbrev figuresIn : GvVersion → Figures
-figuresIn w = record { major = w .major; minor = w .minor }
-
-abbrev pub versionSaid : GvVersion → Outcome Figures
-versionSaid w = said (w .refusal) (figuresIn w)
-
-version-back : (r : Option Refusal) (o : Outcome Figures) → Only Numbered r → versionSaid (versionWords o) ≡ o → versionSaid (versionWords (unless r o)) ≡ unless r o
-unfolding versionWords
-version-back r o p h = back-unless versionWords (λ w. w .refusal) figuresIn (λ n c. refl) r o p h
+    at (some i) (some j) = text-back _ _ (both _ _ (both _ _ (ill-numbered false (bytesOf t i)) (ill-numbered true (bytesOf t j))) (differ-numbered _ _)) refl
 
 pub version-said : (t : List ℕ) → versionSaid (versionWords (versionOf t)) ≡ versionOf t
-unfolding versionOf fromRecords versionIn foundOr versionWords
+unfolding versionOf fromRecords versionWords
 version-said t = version-back (faults t) _ (faults-numbered t) (at (recordWith t (keyFrom 3 1 1033 5)) (recordWith t (keyFrom 1 0 0 5)))
   where
-    number : (wide : Bool) (bytes : List ℕ) → versionSaid (versionWords (versionIn wide bytes)) ≡ versionIn wide bytes
-    number wide bytes = version-back _ _ (one _ _ refl) (found (firstNumber (characters wide bytes)))
-      where
-        found : (q : Option Figures) → let o = foundOr (bare 25) q answered in versionSaid (versionWords o) ≡ o
-        found none = refl
-        found (some f) = refl
-
     at : (p q : Option ℕ) → versionSaid (versionWords (fromRecords t p q)) ≡ fromRecords t p q
     at none none = refl
-    at (some i) q = number true (bytesOf t i)
-    at none (some j) = number false (bytesOf t j)
+    at (some i) q = number-back true (bytesOf t i)
+    at none (some j) = number-back false (bytesOf t j)
 
--- ---- 'OS/2' questions: by the kind of the answer
-
-abbrev saidBy : ℕ → Value → Said
-saidBy k v = cond (eqb k 1) (value v) (cond (eqb k 2) absent not-known)
-
-abbrev pub numberSaid : GvNumber → Outcome Said
-numberSaid w = said (w .refusal) (saidBy (w .kind) (integer (w .value)))
-
-abbrev pub rightsSaid : GvRights → Outcome Said
-rightsSaid w = said (w .refusal) (saidBy (w .kind) (rights (w .rights)))
-
-abbrev pub styleSaid : GvStyle → Outcome Said
-styleSaid w = said (w .refusal) (saidBy (w .kind) (position (w .weight) (w .width)))
-
-abbrev sizesIn : GvOptical → Sizes
-sizesIn w = cond (eqb (w .sizes) 1) every (cond (eqb (w .sizes) 2) (upwards (w .lower)) (between (w .lower) (w .upper)))
-
-abbrev pub opticalSaid : GvOptical → Outcome Said
-opticalSaid w = said (w .refusal) (saidBy (w .kind) (sizes (sizesIn w)))
+-- ---- 'OS/2' questions
 
 -- what a question answers can be read back, where its value can, and absent and not known
 module _ {W : Type 0} (words : Outcome Said → W) (refusal : W → GvRefusal) (answer : W → Said) where
@@ -260,21 +174,9 @@ style-said L b = asked styleWords (λ w. w .refusal) (λ w. saidBy (w .kind) (po
 
 pub optical-said : (L : ℕ) (b : List ℕ) → opticalSaid (opticalWords (ask L b OpticalSizes)) ≡ ask L b OpticalSizes
 unfolding valueOf opticalWords membersOf outcomeRefusal
-optical-said L b = asked opticalWords (λ w. w .refusal) (λ w. saidBy (w .kind) (sizes (sizesIn w))) (λ n c. refl) refl refl L b OpticalSizes (of-sizes _)
-  where
-    of-sizes : (s : Sizes) → opticalSaid (opticalWords (answered (value (sizes s)))) ≡ answered (value (sizes s))
-    of-sizes every = refl
-    of-sizes (upwards l) = refl
-    of-sizes (between l u) = refl
+optical-said L b = asked opticalWords (λ w. w .refusal) (λ w. saidBy (w .kind) (sizes (sizesIn w))) (λ n c. refl) refl refl L b OpticalSizes (sizes-back _)
 
 -- ---- the writer
-
-abbrev pub writtenSaid : GvWritten → Outcome ℕ
-writtenSaid w = said (w .refusal) (w .size)
-
-written-back : (r : Option Refusal) (n : ℕ) → Only Numbered r → writtenSaid (writtenWords (unless r (answered n))) ≡ unless r (answered n)
-unfolding writtenWords
-written-back r n p = back-unless writtenWords (λ w. w .refusal) (λ w. w .size) (λ n c. refl) r (answered n) p refl
 
 pub write-said : (xs : List ℤ) (r : ℕ) → writtenSaid (writtenWords (write xs r)) ≡ write xs r
 unfolding write unwritten
@@ -283,4 +185,4 @@ write-said xs r =
 
 pub rewrite-said : (b : List ℕ) (r : ℕ) → writtenSaid (writtenWords (rewritten b r)) ≡ rewritten b r
 unfolding rewritten unrewritten
-rewrite-said b r = written-back _ _ (both _ _ (judged-numbered newest b) (both _ _ (one _ _ refl) (one _ _ refl)))
+rewrite-said b r = written-back _ _ (both _ _ (judged-numbered _ b) (both _ _ (one _ _ refl) (one _ _ refl)))

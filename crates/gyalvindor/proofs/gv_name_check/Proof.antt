@@ -1,7 +1,7 @@
 -- The words of the verdict, which is the definition's.
 -- Assumes nothing.
 use mathlib.Core.Path.{ap, _∙_}
-use Rattle.gyalvindor.specs.Words.{outcomeRefusal}
+use Rattle.refusal_words.specs.Words.{outcomeRefusal}
 use borrow.Author.Needs.{needs}
 use Rattle.gyalvindor.proofs.gv_name_check.Statement.{statement}
 use Rattle.gyalvindor.proofs.gv_name_check.Tie as tie

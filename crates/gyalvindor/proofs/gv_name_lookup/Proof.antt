@@ -1,7 +1,7 @@
 -- The words of the answer, which is the definition's.
 -- Assumes nothing.
 use mathlib.Core.Path.{ap, _∙_}
-use Rattle.gyalvindor.specs.Words.{textWords}
+use Rattle.name_words.specs.Words.{textWords}
 use borrow.Author.Needs.{needs}
 use Rattle.gyalvindor.proofs.gv_name_lookup.Statement.{statement}
 use Rattle.gyalvindor.proofs.gv_name_lookup.Tie as tie

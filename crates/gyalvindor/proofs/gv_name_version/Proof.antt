@@ -1,7 +1,7 @@
 -- The words of the answer, which is the definition's.
 -- Assumes nothing.
 use mathlib.Core.Path.{ap, _∙_}
-use Rattle.gyalvindor.specs.Words.{versionWords}
+use Rattle.name_words.specs.Words.{versionWords}
 use borrow.Author.Needs.{needs}
 use Rattle.gyalvindor.proofs.gv_name_version.Statement.{statement}
 use Rattle.gyalvindor.proofs.gv_name_version.Tie as tie

@@ -1,7 +1,7 @@
 -- The words of the reply, which says what the definition does.
 -- Assumes nothing.
 use mathlib.Core.Path.{ap, _∙_}
-use Rattle.gyalvindor.specs.Words.{opticalWords}
+use Rattle.os2_words.specs.Words.{opticalWords}
 use borrow.Author.Needs.{needs}
 use Rattle.gyalvindor.proofs.gv_os2_optical_sizes.Statement.{statement}
 use Rattle.gyalvindor.proofs.gv_os2_optical_sizes.Tie as tie

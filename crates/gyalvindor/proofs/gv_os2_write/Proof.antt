@@ -1,7 +1,7 @@
 -- The words of the writer's answer, and the room as the writer leaves it.
 -- Assumes nothing.
 use mathlib.Core.Path.{ap, _∙_}
-use Rattle.gyalvindor.specs.Words.{writtenWords}
+use Rattle.os2_words.specs.Words.{writtenWords}
 use borrow.Author.Needs.{needs}
 use Rattle.gyalvindor.proofs.gv_os2_write.Statement.{statement}
 use Rattle.gyalvindor.proofs.gv_os2_write.Tie as tie

@@ -1,0 +1,101 @@
+// The answers on a 'name' table in the words of C: a string, a version number, and the check's verdict.
+// Document 01, the check of a 'name' table, lookup, and "PostScript name and version number"; `gv_text` and `gv_version` in `include/gyalvindor.h`.
+// Relies on `refusal_words` for a refusal's words, and on `name`, `name_lookup` and `name_answers` for what an answer says.
+ghost use mathlib.Core.Path.{_≡_};
+ghost use Rattle.name.specs.Refusals.{saidCheck};
+ghost use Rattle.name_lookup.specs.Answers.{saidLookup};
+ghost use Rattle.name_answers.specs.Names.{saidName};
+ghost use Rattle.name_answers.specs.Versions.{saidVersion};
+ghost use Rattle.refusal_words.specs.Words.{outcomeRefusal};
+ghost use Rattle.name_words.specs.Words.{textWords, versionWords};
+use name::Verdict;
+use name_answers::PostscriptAnswer;
+use name_answers::VersionAnswer;
+use name_lookup::Answer;
+use name_lookup::LookedUp;
+use refusal_words::GvRefusal;
+use refusal_words::NO_REFUSAL;
+use refusal_words::told_words;
+
+// The answer of a lookup and of the PostScript question: the string's start and length.
+#[repr(C)]
+pub struct GvText {
+    pub refusal: GvRefusal,
+    pub start: usize,
+    pub length: usize,
+}
+
+impl GvText {
+    fn new(refusal: GvRefusal, start: usize, len: usize) -> GvText
+        ensures { λ r. ⌜ r ≡ record { refusal = refusal; start = start; length = len } ⌝ }
+    {
+        GvText {
+            refusal,
+            start,
+            length: len,
+        }
+    }
+}
+
+// The answer of the version question: the figures before and after the period.
+#[repr(C)]
+pub struct GvVersion {
+    pub refusal: GvRefusal,
+    pub major: u32,
+    pub minor: u32,
+}
+
+impl GvVersion {
+    fn new(refusal: GvRefusal, major: u32, minor: u32) -> GvVersion
+        ensures { λ r. ⌜ r ≡ record { refusal = refusal; major = major; minor = minor } ⌝ }
+    {
+        GvVersion {
+            refusal,
+            major,
+            minor,
+        }
+    }
+}
+
+// What the check says.
+pub fn verdict_words(verdict: Verdict) -> GvRefusal
+    ensures { λ r. ⌜ r ≡ outcomeRefusal (saidCheck verdict) ⌝ }
+{
+    match verdict {
+        Verdict::Accepted => NO_REFUSAL,
+        Verdict::Refused(why) => told_words(why.told()),
+    }
+}
+
+// What a lookup says.
+pub fn found_words(found: LookedUp) -> GvText
+    ensures { λ r. ⌜ r ≡ textWords (saidLookup found) ⌝ }
+{
+    let answer = found.answer;
+    match answer {
+        Answer::Found(text) => GvText::new(NO_REFUSAL, text.start, text.len),
+        Answer::Refused(why) => GvText::new(told_words(why.told()), 0, 0),
+    }
+}
+
+// What the PostScript question says.
+pub fn named_words(answer: PostscriptAnswer) -> GvText
+    ensures { λ r. ⌜ r ≡ textWords (saidName answer) ⌝ }
+{
+    match answer {
+        PostscriptAnswer::Name(text) => GvText::new(NO_REFUSAL, text.start, text.len),
+        PostscriptAnswer::Refused(why) => GvText::new(told_words(why.told()), 0, 0),
+    }
+}
+
+// What the version question says.
+pub fn version_words(answer: VersionAnswer) -> GvVersion
+    ensures { λ r. ⌜ r ≡ versionWords (saidVersion answer) ⌝ }
+{
+    match answer {
+        VersionAnswer::Number { major, minor } => {
+            GvVersion::new(NO_REFUSAL, major as u32, minor as u32)
+        }
+        VersionAnswer::Refused(why) => GvVersion::new(told_words(why.told()), 0, 0),
+    }
+}
