@@ -4,7 +4,8 @@
 ghost use mathlib.Core.Path.{_≡_};
 ghost use mathlib.Core.Bool.{false};
 ghost use mathlib.Core.Option.{none};
-ghost use Prim.Native.Nat.{_<_};
+ghost use Prim.Native.Nat.{_≤_, _<_};
+ghost use lib.ListN.{length};
 ghost use lib.IntN.{pos};
 ghost use Rattle.level.specs.Levels.{numberOf};
 ghost use Rattle.os2_rules.specs.Bits.{bit};
@@ -87,28 +88,32 @@ pub enum OpticalAnswer {
 // The version that bits 7 to 9 of fsSelection came in with.
 const LATER_BITS_SINCE: u32 = 4;
 
-// The case of what came in with version p, in a table of version w. `whole` is for the three questions that are not known of a newer table.
-pub fn case_of(p: u32, whole: bool, known: Level, w: u32) -> Case
-    ensures { λ r. ⌜ r ≡ caseOf p whole (numberOf known) w ⌝ }
+// The case of what came in with version p. `whole` is for the three questions that are not known of a newer table.
+// It reads the table's version itself, and only where the level knows of p: the compiler then tells the cases apart by a jump each, and makes no number of them.
+pub fn case_of(table: &[u8], known: Level, p: u32, whole: bool) -> Case
+    requires { ⌜ 2 ≤ length (now table) ⌝ }
+    ensures { λ r. ⌜ r ≡ caseOf p whole (numberOf known) (version (now (table .entry))) ⌝ }
 {
-    if unknown(p, whole, known.number(), w) {
+    if unknown(table, known, p, whole) {
         return Case::NotKnown;
     }
-    if above(p, w) {
+    if above(p, os2_fields::version_of(table)) {
         return Case::Absent;
     }
     Case::Value
 }
 
-// Whether it is not known to the level of that number.
-fn unknown(p: u32, whole: bool, level: u32, w: u32) -> bool
-    ensures { λ r. ⌜ r ≡ unknown p whole level w ⌝ }
+// Whether it is not known to the level.
+fn unknown(table: &[u8], known: Level, p: u32, whole: bool) -> bool
+    requires { ⌜ 2 ≤ length (now table) ⌝ }
+    ensures { λ r. ⌜ r ≡ unknown p whole (numberOf known) (version (now (table .entry))) ⌝ }
 {
+    let level = known.number();
     if above(p, level) {
         return true;
     }
     if whole {
-        return above(w, level);
+        return above(os2_fields::version_of(table), level);
     }
     false
 }
@@ -126,7 +131,7 @@ pub fn field_answer(table: &[u8], known: Level, k: usize) -> Answer
     ensures { λ r. ⌜ saidAnswer r ≡ given (numberOf known) (now (table .entry)) (Question.Field k) ⌝ }
 {
     let f = os2_fields::entry(k);
-    match case_of(f.since as u32, false, known, os2_fields::version_of(table)) {
+    match case_of(table, known, f.since as u32, false) {
         Case::NotKnown => Answer::NotKnown,
         Case::Absent => Answer::Absent,
         Case::Value => Answer::Value(field_value(table, f)),
@@ -172,7 +177,7 @@ fn bit_in(table: &[u8], known: Level, p: u32, f: Field, n: u32) -> Answer
     requires { ⌜ BitIn (numberOf known) (now table) p f n ⌝ }
     ensures { λ r. ⌜ saidAnswer r ≡ saidCase (caseOf p false (numberOf known) (version (now (table .entry)))) (integer (pos (bit n (rawIn (now (table .entry)) f)))) ⌝ }
 {
-    match case_of(p, false, known, os2_fields::version_of(table)) {
+    match case_of(table, known, p, false) {
         Case::NotKnown => Answer::NotKnown,
         Case::Absent => Answer::Absent,
         Case::Value => {
@@ -198,12 +203,7 @@ pub fn rights_answer(table: &[u8], known: Level) -> RightsAnswer
     requires { ⌜ judged (numberOf known) (now table) ≡ none ⌝ }
     ensures { λ r. ⌜ saidRightsAnswer r ≡ given (numberOf known) (now (table .entry)) Question.Rights ⌝ }
 {
-    match case_of(
-        FSTYPE_ENTRY.since as u32,
-        true,
-        known,
-        os2_fields::version_of(table),
-    ) {
+    match case_of(table, known, FSTYPE_ENTRY.since as u32, true) {
         Case::NotKnown => RightsAnswer::NotKnown,
         Case::Absent => RightsAnswer::Absent,
         Case::Value => {
@@ -217,12 +217,7 @@ pub fn style_answer(table: &[u8], known: Level) -> StyleAnswer
     requires { ⌜ judged (numberOf known) (now table) ≡ none ⌝ }
     ensures { λ r. ⌜ saidStyleAnswer r ≡ given (numberOf known) (now (table .entry)) Question.StylePosition ⌝ }
 {
-    match case_of(
-        WEIGHT_ENTRY.since as u32,
-        true,
-        known,
-        os2_fields::version_of(table),
-    ) {
+    match case_of(table, known, WEIGHT_ENTRY.since as u32, true) {
         Case::NotKnown => StyleAnswer::NotKnown,
         Case::Absent => StyleAnswer::Absent,
         Case::Value => StyleAnswer::Value(os2_style::position_of(
@@ -237,12 +232,7 @@ pub fn optical_answer(table: &[u8], known: Level) -> OpticalAnswer
     requires { ⌜ judged (numberOf known) (now table) ≡ none ⌝ }
     ensures { λ r. ⌜ saidOpticalAnswer r ≡ given (numberOf known) (now (table .entry)) Question.OpticalSizes ⌝ }
 {
-    match case_of(
-        LOWER_SIZE_ENTRY.since as u32,
-        true,
-        known,
-        os2_fields::version_of(table),
-    ) {
+    match case_of(table, known, LOWER_SIZE_ENTRY.since as u32, true) {
         Case::NotKnown => OpticalAnswer::NotKnown,
         Case::Absent => OpticalAnswer::Absent,
         Case::Value => OpticalAnswer::Value(os2_style::sizes_of(

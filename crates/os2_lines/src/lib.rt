@@ -72,8 +72,7 @@ fn put_answer(out: &mut [u8], at: usize, table: &[u8], known: Level, k: usize) -
     requires { ⌜ (at + answerRoom ≤ length (now out)) × (judged (numberOf known) (now table) ≡ none) ⌝ }
     ensures { λ r. ⌜ Put (now (out .entry)) at (now (out .exit)) r answerRoom (answerText (now (table .entry)) (given (numberOf known) (now (table .entry)) (questionOf k))) ⌝ }
 {
-    let version = os2_fields::version_of(table);
-    match case_of(since(k), RIGHTS_LINE <= k, known, version) {
+    match case_of(table, known, since(k), RIGHTS_LINE <= k) {
         Case::NotKnown => put(out, at, b"not known"),
         Case::Absent => put(out, at, b"absent"),
         Case::Value => put_value(out, at, table, k),

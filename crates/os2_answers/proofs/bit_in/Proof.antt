@@ -17,21 +17,21 @@ use Rattle.os2_answers.proofs.bit_in.Tie as tie
 
 -- the case that is found
 found : (c : tie.After-case-of) →
-    let args = c .before .before .before .args in
+    let args = c .before .before .args in
     c .case-of .result ≡ caseOf (args .p) false (numberOf (args .known)) (version (args .table .now))
-found c = rw (c .before .version-of .ensures) at (c .case-of .ensures)
+found c = c .case-of .ensures
 
 -- the answer in it
 told : (v : Value) {c d : Case} → c ≡ d → saidCase c v ≡ saidCase d v
 told v e = ap (λ (x : Case). saidCase x v) e
 
-version-of-requires : tie.Need-version-of-requires
-version-of-requires c κs = open-two _ _ (c .before .pre .opened)
+case-of-requires : tie.Need-case-of-requires
+case-of-requires c κs = open-two _ _ (c .before .pre .opened)
 
 number-requires : tie.Need-number-requires
 number-requires c κs =
     let h = held _ _ _ _ (sym (found (c .before .before)) ∙ c .enum-told3 .given .1) in
-    c .before .before .before .before .before .pre .lies (h .known) (h .there)
+    c .before .before .before .before .pre .lies (h .known) (h .there)
 
 returns : tie.Need-returns
 returns c = told _ (sym (c .enum-told .given .1) ∙ found (c .before .before))
@@ -49,5 +49,5 @@ returns-3 c =
 pub bit-in-spec : {M : Type 1} → statement M
 bit-in-spec =
     tie.close
-    (tie.spec version-of-requires (λ c κs. search needs) (λ c. search needs) (λ c. search needs) (λ c. search needs) number-requires
+    (tie.spec case-of-requires (λ c. search needs) (λ c. search needs) (λ c. search needs) number-requires
     (λ c κs. search needs) (λ c κs. search needs) returns returns-2 returns-3)

@@ -19,18 +19,18 @@ use Rattle.os2_answers.proofs.field_answer.Tie as tie
 
 -- the case that is found
 found : (c : tie.After-case-of) →
-    let args = c .before .before .before .before .before .args in
+    let args = c .before .before .before .before .args in
     c .case-of .result ≡ caseOf (fieldOf (args .k) .since) false (numberOf (args .known)) (version (args .table .now))
-found c = rw (c .before .before .before .entry .ensures, c .before .version-of .ensures) at (c .case-of .ensures)
+found c = rw (c .before .before .entry .ensures) at (c .case-of .ensures)
 
-version-of-requires : tie.Need-version-of-requires
-version-of-requires c κs = open-two _ _ (c .before .before .before .pre .1)
+case-of-requires : tie.Need-case-of-requires
+case-of-requires c κs = open-two _ _ (c .before .before .before .pre .1)
 
 field-value-requires : tie.Need-field-value-requires
 field-value-requires c κs =
-    let start = c .before .before .before .before .before .before .before in
+    let start = c .before .before .before .before .before .before in
     let h = held _ _ _ _ (sym (found (c .before .before)) ∙ c .enum-told3 .given .1) in
-    rw (c .before .before .before .before .before .entry .ensures) (open-lies _ _ (start .pre .1) _ (start .pre .0) (h .known) (h .there))
+    rw (c .before .before .before .before .entry .ensures) (open-lies _ _ (start .pre .1) _ (start .pre .0) (h .known) (h .there))
 
 returns : tie.Need-returns
 unfolding since onWhole
@@ -44,11 +44,11 @@ returns-3 : tie.Need-returns-3
 unfolding since onWhole valueOf
 returns-3 c =
     let told = c .before in
-    ap (λ (x : ℤ). value (integer x)) (toZ-ofZ (search needs) ∙ (c .field-value .ensures ∙ rw (told .before .before .before .before .before .entry .ensures)))
+    ap (λ (x : ℤ). value (integer x)) (toZ-ofZ (search needs) ∙ (c .field-value .ensures ∙ rw (told .before .before .before .before .entry .ensures)))
     ∙ given-case _ _ (Field _) (sym (told .enum-told3 .given .1) ∙ found (told .before .before))
 
 pub field-answer-spec : {M : Type 1} → statement M
 field-answer-spec =
     tie.close
-    (tie.spec (λ c κs. search needs) (λ c. search needs) version-of-requires (λ c κs. search needs) (λ c. search needs) (λ c. search needs)
+    (tie.spec (λ c κs. search needs) (λ c. search needs) case-of-requires (λ c. search needs) (λ c. search needs)
     (λ c. search needs) field-value-requires returns returns-2 returns-3)

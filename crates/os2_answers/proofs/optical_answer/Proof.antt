@@ -18,26 +18,26 @@ use Rattle.os2_answers.proofs.optical_answer.Tie as tie
 
 -- the case that is found
 found : (c : tie.After-case-of) →
-    let args = c .before .before .before .before .args in
+    let args = c .before .before .before .args in
     c .case-of .result ≡ caseOf (since OpticalSizes) true (numberOf (args .known)) (version (args .table .now))
 unfolding since
-found c = rw (c .before .version-of .ensures) at (c .case-of .ensures)
+found c = c .case-of .ensures
 
-version-of-requires : tie.Need-version-of-requires
-version-of-requires c κs = open-two _ _ (c .before .before .pre)
+case-of-requires : tie.Need-case-of-requires
+case-of-requires c κs = open-two _ _ (c .before .before .pre)
 
 word-requires : tie.Need-word-requires
 unfolding since fieldOf catalogue
 word-requires c κs =
     let h = held _ _ _ _ (sym (found (c .before .before)) ∙ c .enum-told3 .given .1) in
-    open-word _ _ (c .before .before .before .before .before .before .pre) 46 (omega arith) refl (h .known) (h .there)
+    open-word _ _ (c .before .before .before .before .before .pre) 46 (omega arith) refl (h .known) (h .there)
 
 word-requires-2 : tie.Need-word-requires-2
 unfolding since fieldOf catalogue
 word-requires-2 c κs =
     let case = c .before in
     let h = held _ _ _ _ (sym (found (case .before .before)) ∙ case .enum-told3 .given .1) in
-    open-word _ _ (case .before .before .before .before .before .before .pre) 47 (omega arith) refl (h .known) (h .there)
+    open-word _ _ (case .before .before .before .before .before .pre) 47 (omega arith) refl (h .known) (h .there)
 
 returns : tie.Need-returns
 unfolding onWhole
@@ -57,5 +57,5 @@ returns-3 c =
 pub optical-answer-spec : {M : Type 1} → statement M
 optical-answer-spec =
     tie.close
-    (tie.spec (λ c. search needs) version-of-requires (λ c κs. search needs) (λ c. search needs) (λ c. search needs) (λ c. search needs) word-requires
+    (tie.spec (λ c. search needs) case-of-requires (λ c. search needs) (λ c. search needs) (λ c. search needs) word-requires
     word-requires-2 (λ c κs. search needs) returns returns-2 returns-3)

@@ -20,17 +20,17 @@ use Rattle.os2_answers.proofs.rights_answer.Tie as tie
 
 -- the case that is found
 found : (c : tie.After-case-of) →
-    let args = c .before .before .before .before .args in
+    let args = c .before .before .before .args in
     c .case-of .result ≡ caseOf (since Rights) true (numberOf (args .known)) (version (args .table .now))
 unfolding since
-found c = rw (c .before .version-of .ensures) at (c .case-of .ensures)
+found c = c .case-of .ensures
 
-version-of-requires : tie.Need-version-of-requires
-version-of-requires c κs = open-two _ _ (c .before .before .pre)
+case-of-requires : tie.Need-case-of-requires
+case-of-requires c κs = open-two _ _ (c .before .before .pre)
 
 word-requires : tie.Need-word-requires
 unfolding fieldOf catalogue
-word-requires c κs = open-word _ _ (c .before .before .before .before .before .before .pre) 4 (omega arith) refl zero-le zero-le
+word-requires c κs = open-word _ _ (c .before .before .before .before .before .pre) 4 (omega arith) refl zero-le zero-le
 
 returns : tie.Need-returns
 unfolding onWhole
@@ -50,5 +50,5 @@ returns-3 c =
 pub rights-answer-spec : {M : Type 1} → statement M
 rights-answer-spec =
     tie.close
-    (tie.spec (λ c. search needs) version-of-requires (λ c κs. search needs) (λ c. search needs) (λ c. search needs) (λ c. search needs) word-requires
+    (tie.spec (λ c. search needs) case-of-requires (λ c. search needs) (λ c. search needs) (λ c. search needs) word-requires
     (λ c κs. search needs) returns returns-2 returns-3)

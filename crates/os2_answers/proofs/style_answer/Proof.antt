@@ -18,28 +18,28 @@ use Rattle.os2_answers.proofs.style_answer.Tie as tie
 
 -- the case that is found
 found : (c : tie.After-case-of) →
-    let args = c .before .before .before .before .args in
+    let args = c .before .before .before .args in
     c .case-of .result ≡ caseOf (since StylePosition) true (numberOf (args .known)) (version (args .table .now))
 unfolding since
-found c = rw (c .before .version-of .ensures) at (c .case-of .ensures)
+found c = c .case-of .ensures
 
-version-of-requires : tie.Need-version-of-requires
-version-of-requires c κs = open-two _ _ (c .before .before .pre)
+case-of-requires : tie.Need-case-of-requires
+case-of-requires c κs = open-two _ _ (c .before .before .pre)
 
 word-requires : tie.Need-word-requires
 unfolding fieldOf catalogue
-word-requires c κs = open-word _ _ (c .before .before .before .before .before .before .pre) 2 (omega arith) refl zero-le zero-le
+word-requires c κs = open-word _ _ (c .before .before .before .before .before .pre) 2 (omega arith) refl zero-le zero-le
 
 word-requires-2 : tie.Need-word-requires-2
 unfolding fieldOf catalogue
-word-requires-2 c κs = open-word _ _ (c .before .before .before .before .before .before .before .pre) 3 (omega arith) refl zero-le zero-le
+word-requires-2 c κs = open-word _ _ (c .before .before .before .before .before .before .pre) 3 (omega arith) refl zero-le zero-le
 
 position-of-requires : tie.Need-position-of-requires
 unfolding valuesOf fieldOf catalogue
 position-of-requires c κs =
     let case = c .before .before in
     let h = held _ _ _ _ (sym (found (case .before .before)) ∙ case .enum-told3 .given .1) in
-    rw (c .word2 .ensures) (open-rules _ _ (case .before .before .before .before .before .before .pre) (h .old refl) 2 .rule-2 refl)
+    rw (c .word2 .ensures) (open-rules _ _ (case .before .before .before .before .before .pre) (h .old refl) 2 .rule-2 refl)
 
 returns : tie.Need-returns
 unfolding onWhole
@@ -59,5 +59,5 @@ returns-3 c =
 pub style-answer-spec : {M : Type 1} → statement M
 style-answer-spec =
     tie.close
-    (tie.spec (λ c. search needs) version-of-requires (λ c κs. search needs) (λ c. search needs) (λ c. search needs) (λ c. search needs) word-requires
+    (tie.spec (λ c. search needs) case-of-requires (λ c. search needs) (λ c. search needs) (λ c. search needs) word-requires
     word-requires-2 position-of-requires returns returns-2 returns-3)

@@ -17,17 +17,17 @@ use Rattle.os2_lines.proofs.put_answer.Tie as tie
 
 -- the case that is found
 found : (c : tie.After-case-of) →
-    let args = c .before .before .before .before .before .args in
+    let args = c .before .before .before .before .args in
     c .case-of .result ≡ caseOf (since (questionOf (args .k))) (onWhole (questionOf (args .k))) (numberOf (args .known)) (version (args .table .now))
-found c = rw (c .before .since .ensures, on-whole _, c .before .before .version-of .ensures) at (c .case-of .ensures)
+found c = rw (c .before .since .ensures, on-whole _) at (c .case-of .ensures)
 
-version-of-requires : tie.Need-version-of-requires
-version-of-requires c κs = open-two _ _ (c .before .before .pre .1)
+case-of-requires : tie.Need-case-of-requires
+case-of-requires c κs = open-two _ _ (c .before .before .before .pre .1)
 
 put-value-requires : tie.Need-put-value-requires
 put-value-requires c κs =
     let told = c .before in
-    let start = told .before .before .before .before .before .before .before in
+    let start = told .before .before .before .before .before .before in
     (omega arith, record { level = _; accepted = start .pre .1; case = sym (found (told .before .before)) ∙ told .enum-told3 .given .1 })
 
 returns : tie.Need-returns
@@ -52,9 +52,8 @@ pub put-answer-spec : {M : Type 1} → statement M
 put-answer-spec =
     tie.close
     (tie.spec
-    version-of-requires
     (λ c κs. search needs)
-    (λ c κs. search needs)
+    case-of-requires
     (λ c. search needs)
     (λ c. search needs)
     (λ c κs. search needs)
