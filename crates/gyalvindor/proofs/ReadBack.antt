@@ -26,13 +26,14 @@ use Rattle.os2_fields.specs.Fields.{raw, version, valuesOf}
 use Rattle.os2_store.specs.Writing.{unwritten, write}
 use Rattle.os2_writer.specs.Rewriting.{unrewritten, rewritten}
 use Rattle.os2_acceptance.specs.Acceptance.{ruling, judged, checked}
-use Rattle.os2_answers.specs.declared.Question.{Question}
-use Rattle.os2_answers.specs.declared.Question.the-variants.{Field, SelectionBit, UnicodeBit, CodePageBit, Rights, StylePosition, OpticalSizes}
-use Rattle.os2_answers.specs.declared.Case.{Case}
-use Rattle.os2_answers.specs.declared.Case.the-variants as Case·
+use Rattle.os2_questions.specs.declared.Question.{Question}
+use Rattle.os2_questions.specs.declared.Question.the-variants.{Field, SelectionBit, UnicodeBit, CodePageBit, Rights, StylePosition, OpticalSizes}
+use Rattle.os2_questions.specs.declared.Case.{Case}
+use Rattle.os2_questions.specs.declared.Case.the-variants as Case·
+use Rattle.os2_questions.specs.Questions.{ownRefusal, since, onWhole}
+use Rattle.os2_questions.specs.Cases.{caseOf}
 use Rattle.os2_answers.specs.Values.{integer, rights, position, sizes, Said, value, absent, not-known}
-use Rattle.os2_answers.specs.Questions.{ownRefusal, since, onWhole}
-use Rattle.os2_answers.specs.Asking.{valueOf, caseOf, saidCase, given, beforeTable, ask}
+use Rattle.os2_answers.specs.Asking.{valueOf, saidCase, given, beforeTable, ask}
 use Rattle.os2.specs.Replies.{kindOf, of-number}
 use Rattle.refusal_words.specs.declared.GvRefusal.{GvRefusal}
 use Rattle.refusal_words.specs.Words.{refusalWords, outcomeRefusal}

@@ -14,9 +14,9 @@ use Rattle.level.specs.declared.Level.{Level}
 use Rattle.level.specs.declared.LevelAnswer.the-variants.{Known, Refused}
 use Rattle.level.proofs.Laws.{known, refused as level-refused}
 use Rattle.os2_acceptance.specs.Acceptance.{judged}
-use Rattle.os2_answers.specs.declared.Question.{Question}
+use Rattle.os2_questions.specs.declared.Question.{Question}
+use Rattle.os2_questions.specs.Questions.{ownRefusal}
 use Rattle.os2_answers.specs.Values.{Said}
-use Rattle.os2_answers.specs.Questions.{ownRefusal}
 use Rattle.os2_answers.specs.Asking.{given, beforeTable, ask}
 use Rattle.os2_answers.specs.Reading.{Asked}
 

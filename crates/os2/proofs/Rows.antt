@@ -1,18 +1,17 @@
 -- The seven questions, each with the kind of its reply, and what the replies of the code say, written out: by computing.
 -- Assumes nothing.
-use Prim.Native.Nat.{ℕ}
 use mathlib.Core.Path.{_≡_, refl}
 use mathlib.Core.Option.{none, some}
 use mathlib.Core.List.{List, [], _∷_, map}
-use Rattle.outcomes.specs.Outcomes.{Outcome, refused, answered}
+use Rattle.outcomes.specs.Outcomes.{refused, answered}
 use Rattle.level.specs.declared.Level.the-variants.{Four}
 use Rattle.os2_acceptance.specs.declared.Refusal.the-variants.{LevelAbove, TooShort, RuleBroken, NoField, NoBit}
-use Rattle.os2_answers.specs.declared.Question.the-variants.{Field, SelectionBit, UnicodeBit, CodePageBit, Rights, StylePosition, OpticalSizes}
+use Rattle.os2_questions.specs.declared.Question.the-variants.{Field, SelectionBit, UnicodeBit, CodePageBit, Rights, StylePosition, OpticalSizes}
 use Rattle.os2_answers.specs.declared.Answer.the-variants as Answer·
 use Rattle.os2_answers.specs.declared.RightsAnswer.the-variants as RightsAnswer·
 use Rattle.os2_answers.specs.declared.StyleAnswer.the-variants as StyleAnswer·
 use Rattle.os2_answers.specs.declared.OpticalAnswer.the-variants as OpticalAnswer·
-use Rattle.os2_answers.specs.Values.{Said, absent, not-known}
+use Rattle.os2_answers.specs.Values.{absent, not-known}
 use Rattle.os2.specs.declared.Opening.the-variants as Opening·
 use Rattle.os2.specs.declared.Reply.the-variants as Reply·
 use Rattle.os2.specs.declared.RightsReply.the-variants as RightsReply·
@@ -20,7 +19,7 @@ use Rattle.os2.specs.declared.StyleReply.the-variants as StyleReply·
 use Rattle.os2.specs.declared.OpticalReply.the-variants as OpticalReply·
 use Rattle.os2.specs.declared.AnyReply.{AnyReply}
 use Rattle.os2.specs.declared.AnyReply.the-variants as AnyReply·
-use Rattle.os2.specs.Replies.{saidOpening, Kind, of-number, of-rights, of-style, of-optical, kindOf, saidAnyReply}
+use Rattle.os2.specs.Replies.{saidOpening, of-number, of-rights, of-style, of-optical, kindOf, saidAnyReply}
 
 pub kinds : map kindOf (Field 47 ∷ SelectionBit 9 ∷ UnicodeBit 127 ∷ CodePageBit 63 ∷ Rights ∷ StylePosition ∷ OpticalSizes ∷ [])
     ≡ of-number ∷ of-number ∷ of-number ∷ of-number ∷ of-rights ∷ of-style ∷ of-optical ∷ []

@@ -4,8 +4,8 @@ use Rattle.outcomes.specs.Outcomes.{Outcome, refused, answered}
 use Rattle.level.specs.Levels.{numberOf}
 use Rattle.os2_acceptance.specs.declared.Refusal.{Refusal}
 use Rattle.os2_acceptance.specs.Replies.{saidRefusal}
-use Rattle.os2_answers.specs.declared.Question.{Question}
-use Rattle.os2_answers.specs.declared.Question.the-variants.{Field, SelectionBit, UnicodeBit, CodePageBit, Rights, StylePosition, OpticalSizes}
+use Rattle.os2_questions.specs.declared.Question.{Question}
+use Rattle.os2_questions.specs.declared.Question.the-variants.{Field, SelectionBit, UnicodeBit, CodePageBit, Rights, StylePosition, OpticalSizes}
 use Rattle.os2_answers.specs.Values.{Said}
 use Rattle.os2_answers.specs.Replies.{saidAnswer, saidRightsAnswer, saidStyleAnswer, saidOpticalAnswer}
 use Rattle.os2.specs.declared.Opening.{Opening}

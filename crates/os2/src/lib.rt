@@ -1,14 +1,12 @@
 // The 'OS/2' reader: whether a level accepts a table, and the seven questions.
 // Document 01, "Questions on an accepted OS/2 table", in its order of refusals.
-// Relies on `level` for levels, `os2_acceptance` for refusals 2 and 3, and `os2_answers` for the answers on an accepted table.
+// Relies on `level` for levels, `os2_acceptance` for refusals 2 and 3, `os2_questions` for refusals 6 and 7, and `os2_answers` for the answers on an accepted table.
 ghost use mathlib.Core.Path.{_≡_};
-ghost use lib.Dec.{ltb};
-ghost use Rattle.outcomes.specs.Firsts.{when, _then_};
+ghost use Rattle.outcomes.specs.Firsts.{_then_};
 ghost use Rattle.outcomes.specs.Outcomes.{answered, unless};
 ghost use Rattle.level.specs.Levels.{numberOf};
 ghost use Rattle.os2_acceptance.specs.Acceptance.{judged, checked};
-ghost use Rattle.os2_acceptance.specs.Replies.{saidRefusal, saidFound, saidCheck};
-ghost use Rattle.os2_answers.specs.Questions.{ownRefusal};
+ghost use Rattle.os2_acceptance.specs.Replies.{saidCheck};
 ghost use Rattle.os2_answers.specs.Asking.{beforeTable, ask};
 ghost use Rattle.os2.specs.Replies.{saidOpening, saidReply, saidRightsReply, saidStyleReply, saidOpticalReply, saidAnyReply, kindOf};
 use level::Level;
@@ -17,9 +15,9 @@ pub use os2_acceptance::Checked;
 pub use os2_acceptance::Refusal;
 pub use os2_answers::Answer;
 pub use os2_answers::OpticalAnswer;
-pub use os2_answers::Question;
 pub use os2_answers::RightsAnswer;
 pub use os2_answers::StyleAnswer;
+pub use os2_questions::Question;
 
 // An answer on a field or a bit, or the refusal beside it.
 pub enum Reply {
@@ -187,7 +185,7 @@ pub fn before_table(level: u32, question: Question) -> Opening
     let LevelAnswer::Known(known) = Level::new(level) else {
         return Opening::Refused(Refusal::LevelAbove);
     };
-    match in_range(question) {
+    match os2_questions::in_range(question) {
         Checked::Refused(why) => Opening::Refused(why),
         Checked::Accepted => Opening::Known(known),
     }
@@ -204,29 +202,4 @@ pub fn on_table(table: &[u8], known: Level) -> Opening
         Checked::Refused(why) => Opening::Refused(why),
         Checked::Accepted => Opening::Known(known),
     }
-}
-
-// Refusals 6 and 7.
-fn in_range(question: Question) -> Checked
-    ensures { λ r. ⌜ saidFound r ≡ ownRefusal question ⌝ }
-{
-    match question {
-        Question::Field(number) => at_most(number, 47, Refusal::NoField),
-        Question::SelectionBit(number) => at_most(number, 9, Refusal::NoBit),
-        Question::UnicodeBit(number) => at_most(number, 127, Refusal::NoBit),
-        Question::CodePageBit(number) => at_most(number, 63, Refusal::NoBit),
-        Question::Rights => Checked::Accepted,
-        Question::StylePosition => Checked::Accepted,
-        Question::OpticalSizes => Checked::Accepted,
-    }
-}
-
-// The refusal of a number above the largest.
-fn at_most(number: u32, largest: u32, why: Refusal) -> Checked
-    ensures { λ r. ⌜ saidFound r ≡ when (ltb largest number) (saidRefusal why) ⌝ }
-{
-    if largest < number {
-        return Checked::Refused(why);
-    }
-    Checked::Accepted
 }

@@ -19,16 +19,18 @@ use Rattle.os2_fields.specs.Fields.{rawIn, version, valuesOf}
 use Rattle.os2_acceptance.specs.Acceptance.{underTwo, underSize, short, ruling, judged, checked}
 use Rattle.os2_acceptance.specs.Settled.{Short, Accepted}
 use Rattle.os2_acceptance.proofs.Accepting.{judged-exactly, judged-short, checked-exactly, accepted-down, lower-accepts, two-levels}
-use Rattle.os2_answers.specs.declared.Question.{Question}
-use Rattle.os2_answers.specs.declared.Question.the-variants.{Rights}
+use Rattle.os2_questions.specs.declared.Question.{Question}
+use Rattle.os2_questions.specs.declared.Question.the-variants.{Rights}
+use Rattle.os2_questions.specs.Questions.{ownRefusal, since, onWhole}
+use Rattle.os2_questions.specs.Settled.{CameIn, rights-came, Later, after, newer}
+use Rattle.os2_questions.proofs.Cases.{known-exactly, not-above}
+use Rattle.os2_questions.proofs.Settling.{came-since, later-is, later-exactly}
 use Rattle.os2_answers.specs.Values.{Said, value, not-known}
-use Rattle.os2_answers.specs.Questions.{ownRefusal, since, onWhole}
 use Rattle.os2_answers.specs.Asking.{valueOf, given, ask}
-use Rattle.os2_answers.specs.Settled.{CameIn, rights-came, Later, after, newer}
 use Rattle.os2_answers.specs.Demands.{Agreement, Demand3, SameOrNewer}
 use Rattle.os2_answers.specs.Examples.{first}
-use Rattle.os2_answers.proofs.Cases.{known-exactly, given-down, given-unknown, given-not-known, given-value, not-above}
-use Rattle.os2_answers.proofs.Settling.{came-since, later-is, later-exactly, ask-own, ask-judged, ask-accepted, settles}
+use Rattle.os2_answers.proofs.Cases.{given-down, given-unknown, given-not-known, given-value}
+use Rattle.os2_answers.proofs.Settling.{ask-own, ask-judged, ask-accepted, settles}
 
 -- ---- demand 3
 

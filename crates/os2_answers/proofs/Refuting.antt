@@ -23,8 +23,8 @@ use Rattle.os2_store.specs.Writing.{fits, codeOf, noVersion, noRoom, has, misfi
 use Rattle.os2_acceptance.specs.Acceptance.{underTwo, underSize, short, ruling, judged}
 use Rattle.os2_acceptance.specs.Settled.{Accepted}
 use Rattle.os2_acceptance.proofs.Accepting.{judged-exactly}
-use Rattle.os2_answers.specs.declared.Question.{Question}
-use Rattle.os2_answers.specs.declared.Question.the-variants.{Field}
+use Rattle.os2_questions.specs.declared.Question.{Question}
+use Rattle.os2_questions.specs.declared.Question.the-variants.{Field}
 use Rattle.os2_answers.specs.Values.{Said}
 use Rattle.os2_answers.specs.RoundTrips.{Gives, ReadsBack, Rewrites}
 

@@ -17,13 +17,15 @@ use Rattle.os2_fields.specs.Fields.{rawIn, valueIn, version}
 use Rattle.os2_store.specs.Writing.{numberFor, write, roomAfter, InVersion}
 use Rattle.os2_store.proofs.RoundTrips.{Written, written, same-bytes}
 use Rattle.os2_acceptance.specs.Settled.{Accepted}
-use Rattle.os2_answers.specs.declared.Question.the-variants.{Field}
+use Rattle.os2_questions.specs.declared.Question.the-variants.{Field}
+use Rattle.os2_questions.specs.Questions.{ownRefusal, since, onWhole}
+use Rattle.os2_questions.proofs.Cases.{known-exactly, not-above}
+use Rattle.os2_questions.proofs.Settling.{under}
 use Rattle.os2_answers.specs.Values.{integer, value}
-use Rattle.os2_answers.specs.Questions.{ownRefusal, since, onWhole}
 use Rattle.os2_answers.specs.Asking.{valueOf, ask}
 use Rattle.os2_answers.specs.RoundTrips.{Gives, ReadsBack, Rewrites}
-use Rattle.os2_answers.proofs.Cases.{known-exactly, not-above, given-value}
-use Rattle.os2_answers.proofs.Settling.{under, ask-accepted}
+use Rattle.os2_answers.proofs.Cases.{given-value}
+use Rattle.os2_answers.proofs.Settling.{ask-accepted}
 
 -- a field of an accepted table, read at level 5
 pub ask-field : (b : List ℕ) (k : ℕ) → Accepted newest b → version b ≤ newest → InVersion (version b) k →

@@ -2,8 +2,7 @@
 -- Assumes nothing.
 use Prim.Native.Nat.{ℕ, zero, suc, _<_, _≤_}
 use mathlib.Core.Path.{_≡_, refl, sym, ap, _∙_}
-use mathlib.Core.Logic.{inl, inr, ⊎-elim, _↔_, Iff·rfl, Iff·trans, Iff·and}
-use mathlib.Core.Bool.{Bool, true, false, cond, false≢true}
+use mathlib.Core.Bool.{Bool, true, false, cond}
 use mathlib.Core.Option.{Option, none, some}
 use mathlib.Core.List.{List}
 use native.Mathlib.Decide.{decLt}
@@ -11,9 +10,8 @@ use native.Mathlib.Omega.{arith}
 use lib.Dec.{ltb, eqb}
 use borrow.Author.Tests.{lt-ltb, le-ltb, eq-eqb, ne-eqb, ltb-true, ltb-false, eqb-true, eqb-false}
 use Rattle.outcomes.specs.Firsts.{when, _then_}
-use Rattle.outcomes.specs.Outcomes.{Refusal, bare, Outcome, refused, answered, unless}
-use Rattle.outcomes.proofs.Laws.{when-none, when-some}
-use Rattle.outcomes.proofs.Tests.{below, not-below, fails}
+use Rattle.outcomes.specs.Outcomes.{Refusal, Outcome, refused, answered, unless}
+use Rattle.outcomes.proofs.Tests.{fails}
 use Rattle.level.specs.Levels.{newest}
 use Rattle.os2_rules.specs.Bits.{bit}
 use Rattle.os2_rules.specs.Rules.{RightsRule}
@@ -23,98 +21,19 @@ use Rattle.os2_style.specs.Style.{Sizes, every, upwards, between, rightsOf, poi
 use Rattle.os2_acceptance.specs.Acceptance.{judged}
 use Rattle.os2_acceptance.specs.Settled.{Accepted}
 use Rattle.os2_acceptance.proofs.Accepting.{judged-exactly, judged-short, judged-broken, judged-ways}
-use Rattle.os2_answers.specs.declared.Question.{Question}
-use Rattle.os2_answers.specs.declared.Question.the-variants.{Field, SelectionBit, UnicodeBit, CodePageBit, Rights, StylePosition, OpticalSizes}
+use Rattle.os2_questions.specs.declared.Question.{Question}
+use Rattle.os2_questions.specs.declared.Question.the-variants.{Field, SelectionBit, UnicodeBit, CodePageBit, Rights, StylePosition, OpticalSizes}
+use Rattle.os2_questions.specs.Questions.{ownRefusal, since, onWhole}
+use Rattle.os2_questions.specs.Cases.{above}
+use Rattle.os2_questions.proofs.Cases.{above-exactly, not-above, known-exactly}
+use Rattle.os2_questions.proofs.Settling.{own, own-is, came, came-since, unknownTo, later-is, later-exactly}
 use Rattle.os2_answers.specs.Values.{Value, rights, sizes, Said}
-use Rattle.os2_answers.specs.Questions.{ownRefusal, since, onWhole}
-use Rattle.os2_answers.specs.Asking.{above, valueOf, given, beforeTable, ask}
-use Rattle.os2_answers.specs.Settled.{OwnRefusal, no-field, no-selection-bit, no-unicode-bit, no-code-page-bit}
-use Rattle.os2_answers.specs.Settled.{CameIn, field-came, selection-came, selection-came-later, unicode-came, code-page-came, rights-came, style-came, optical-came}
-use Rattle.os2_answers.specs.Settled.{OnWhole, rights-whole, style-whole, optical-whole, Later, after, newer}
+use Rattle.os2_answers.specs.Asking.{valueOf, given, beforeTable, ask}
 use Rattle.os2_answers.specs.Settled.{RightsAre, none-set, one-set, SizesAre, all, from-lower, both}
 use Rattle.os2_answers.specs.Settled.{Says, field-says, selection-says, unicode-says, code-page-says, rights-say, style-says, optical-says}
 use Rattle.os2_answers.specs.Settled.{Settled, level-above, own-number, too-short, rule-broken, is-not-known, is-absent, is-value}
 use Rattle.os2_answers.specs.Demands.{AnswersSettled}
-use Rattle.os2_answers.proofs.Cases.{above-exactly, not-above, unknown-exactly, known-exactly, unknownTo, given-not-known, given-absent, given-value}
-
--- ---- the questions
-
--- a number in its range, and one above it
-pub under : (n k : ℕ) (r : Refusal) → (when (ltb n k) r ≡ none) ↔ (k ≤ n)
-under n k r = Iff·trans (when-none (ltb n k) r) (not-below n k)
-
-over : (n k : ℕ) (r s : Refusal) → (when (ltb n k) r ≡ some s) ↔ ((n < k) × (r ≡ s))
-over n k r s = Iff·trans (when-some (ltb n k) r s) (Iff·and (below n k) Iff·rfl)
-
-pub came : (q : Question) → ownRefusal q ≡ none → CameIn q (since q)
-unfolding ownRefusal since
-came (Field k) e = field-came (under 47 k (bare 6) .0 e)
-came (SelectionBit n) e = at (ltb n 7) refl
-  where
-    at : (t : Bool) → ltb n 7 ≡ t → CameIn (SelectionBit n) (cond t 0 4)
-    at true d = selection-came {n = n} (omega (arith, ltb-true n 7 d))
-    at false d = selection-came-later (ltb-false n 7 d) (under 9 n (bare 7) .0 e)
-came (UnicodeBit n) e = unicode-came (under 127 n (bare 7) .0 e)
-came (CodePageBit n) e = code-page-came (under 63 n (bare 7) .0 e)
-came Rights e = rights-came
-came StylePosition e = style-came
-came OpticalSizes e = optical-came
-
-pub came-since : {q : Question} {p : ℕ} → CameIn q p → (ownRefusal q ≡ none) × (p ≡ since q)
-unfolding ownRefusal since
-came-since (field-came {k} h) = (under 47 k (bare 6) .1 h, refl)
-came-since (selection-came {n} h) = (under 9 n (bare 7) .1 (omega arith), rw (lt-ltb n 7 (omega arith)))
-came-since (selection-came-later {n} h l) = (under 9 n (bare 7) .1 l, rw (le-ltb n 7 h))
-came-since (unicode-came {n} h) = (under 127 n (bare 7) .1 h, refl)
-came-since (code-page-came {n} h) = (under 63 n (bare 7) .1 h, refl)
-came-since rights-came = (refl, refl)
-came-since style-came = (refl, refl)
-came-since optical-came = (refl, refl)
-
-own : (q : Question) (r : Refusal) → ownRefusal q ≡ some r → (n : ℕ) × (bare n ≡ r) × OwnRefusal q n
-unfolding ownRefusal
-own (Field k) r e = let o = over 47 k (bare 6) r .0 e in (6, o .1, no-field (o .0))
-own (SelectionBit n) r e = let o = over 9 n (bare 7) r .0 e in (7, o .1, no-selection-bit (o .0))
-own (UnicodeBit n) r e = let o = over 127 n (bare 7) r .0 e in (7, o .1, no-unicode-bit (o .0))
-own (CodePageBit n) r e = let o = over 63 n (bare 7) r .0 e in (7, o .1, no-code-page-bit (o .0))
-own Rights r e = let z : _≡_ {A = ℕ} 0 1 = cc in absurd (omega arith)
-own StylePosition r e = let z : _≡_ {A = ℕ} 0 1 = cc in absurd (omega arith)
-own OpticalSizes r e = let z : _≡_ {A = ℕ} 0 1 = cc in absurd (omega arith)
-
-own-is : {q : Question} {n : ℕ} → OwnRefusal q n → ownRefusal q ≡ some (bare n)
-unfolding ownRefusal
-own-is (no-field {k} h) = over 47 k (bare 6) (bare 6) .1 (h, refl)
-own-is (no-selection-bit {n} h) = over 9 n (bare 7) (bare 7) .1 (h, refl)
-own-is (no-unicode-bit {n} h) = over 127 n (bare 7) (bare 7) .1 (h, refl)
-own-is (no-code-page-bit {n} h) = over 63 n (bare 7) (bare 7) .1 (h, refl)
-
-whole : (q : Question) → onWhole q ≡ true → OnWhole q
-unfolding onWhole
-whole (Field k) e = absurd (false≢true e)
-whole (SelectionBit n) e = absurd (false≢true e)
-whole (UnicodeBit n) e = absurd (false≢true e)
-whole (CodePageBit n) e = absurd (false≢true e)
-whole Rights e = rights-whole
-whole StylePosition e = style-whole
-whole OpticalSizes e = optical-whole
-
-whole-is : {q : Question} → OnWhole q → (onWhole q ≡ true) × (ownRefusal q ≡ none)
-unfolding onWhole ownRefusal
-whole-is rights-whole = (refl, refl)
-whole-is style-whole = (refl, refl)
-whole-is optical-whole = (refl, refl)
-
--- the test of "not known" says just what document 01 says of a question whose number is in its range
-module _ (L : ℕ) (b : List ℕ) (q : Question) where
-  pub later-is : Later L b q → (ownRefusal q ≡ none) × (unknownTo L b q ≡ true)
-  later-is (after c h) = let s = came-since c in (s .0, unknown-exactly (since q) (onWhole q) L (version b) .1 (inl (rw (s .1) at h)))
-  later-is (newer o h) = let s = whole-is o in (s .1, unknown-exactly (since q) (onWhole q) L (version b) .1 (inr (s .0, h)))
-
-  pub later-exactly : ownRefusal q ≡ none → (unknownTo L b q ≡ true) ↔ Later L b q
-  later-exactly r = (
-    λ e. ⊎-elim (λ n. after (came q r) n) (λ n. newer (whole q (n .0)) (n .1)) (unknown-exactly (since q) (onWhole q) L (version b) .0 e),
-    λ l. later-is l .1,
-  )
+use Rattle.os2_answers.proofs.Cases.{given-not-known, given-absent, given-value}
 
 -- ---- the values
 

@@ -17,13 +17,16 @@ use Rattle.os2_fields.specs.Fields.{version}
 use Rattle.os2_fields.proofs.Tiling.{raw-same, value-same, range-since, page-since}
 use Rattle.os2_acceptance.specs.Demands.{trimmed}
 use Rattle.os2_acceptance.proofs.Trimming.{version-same, judged-trimmed}
-use Rattle.os2_answers.specs.declared.Question.{Question}
-use Rattle.os2_answers.specs.declared.Question.the-variants.{Field, SelectionBit, UnicodeBit, CodePageBit, Rights, StylePosition, OpticalSizes}
-use Rattle.os2_answers.specs.Questions.{ownRefusal, since, onWhole}
-use Rattle.os2_answers.specs.Asking.{above, valueOf, given, ask}
+use Rattle.os2_questions.specs.declared.Question.{Question}
+use Rattle.os2_questions.specs.declared.Question.the-variants.{Field, SelectionBit, UnicodeBit, CodePageBit, Rights, StylePosition, OpticalSizes}
+use Rattle.os2_questions.specs.Questions.{ownRefusal, since, onWhole}
+use Rattle.os2_questions.specs.Cases.{above}
+use Rattle.os2_questions.proofs.Cases.{known-exactly, not-above}
+use Rattle.os2_questions.proofs.Settling.{unknownTo, under}
+use Rattle.os2_answers.specs.Asking.{valueOf, given, ask}
 use Rattle.os2_answers.specs.Demands.{ReadsNoMore}
-use Rattle.os2_answers.proofs.Cases.{known-exactly, not-above, unknownTo, given-not-known, given-absent, given-value}
-use Rattle.os2_answers.proofs.Settling.{under, ask-above, ask-own, ask-judged}
+use Rattle.os2_answers.proofs.Cases.{given-not-known, given-absent, given-value}
+use Rattle.os2_answers.proofs.Settling.{ask-above, ask-own, ask-judged}
 
 asked-same : (b : List ℕ) (v : ℕ) (q : Question) → ownRefusal q ≡ none → since q ≤ v → valueOf (take (tableSize v) b) q ≡ valueOf b q
 unfolding valueOf since ownRefusal fieldOf catalogue

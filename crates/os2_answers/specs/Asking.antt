@@ -1,6 +1,5 @@
 -- What a level answers to a question: the refusals in document 01's order, then the answer.
 use Prim.Native.Nat.{ℕ, _+_, _/_, _%_}
-use mathlib.Core.Bool.{Bool, cond, _&&_, _||_}
 use mathlib.Core.Option.{Option}
 use mathlib.Core.List.{List}
 use lib.Dec.{ltb}
@@ -13,12 +12,13 @@ use Rattle.os2_fields.specs.Catalogue.{fieldOf}
 use Rattle.os2_fields.specs.Fields.{raw, version}
 use Rattle.os2_style.specs.Style.{rightsOf, float, percentOf, sizesOf}
 use Rattle.os2_acceptance.specs.Acceptance.{judged}
-use Rattle.os2_answers.specs.declared.Question.{Question}
-use Rattle.os2_answers.specs.declared.Question.the-variants.{Field, SelectionBit, UnicodeBit, CodePageBit, Rights, StylePosition, OpticalSizes}
-use Rattle.os2_answers.specs.declared.Case.{Case}
-use Rattle.os2_answers.specs.declared.Case.the-variants as Case·
+use Rattle.os2_questions.specs.declared.Question.{Question}
+use Rattle.os2_questions.specs.declared.Question.the-variants.{Field, SelectionBit, UnicodeBit, CodePageBit, Rights, StylePosition, OpticalSizes}
+use Rattle.os2_questions.specs.declared.Case.{Case}
+use Rattle.os2_questions.specs.declared.Case.the-variants as Case·
+use Rattle.os2_questions.specs.Questions.{ownRefusal, since, onWhole}
+use Rattle.os2_questions.specs.Cases.{caseOf}
 use Rattle.os2_answers.specs.Values.{Value, integer, rights, position, sizes, Said, value, absent, not-known, fieldValue}
-use Rattle.os2_answers.specs.Questions.{ownRefusal, since, onWhole}
 
 -- the value asked for. Unicode ranges are fields 26 to 29, code pages 39 and 40
 unfoldable pub valueOf : List ℕ → Question → Value
@@ -29,18 +29,6 @@ valueOf b (CodePageBit n) = integer (pos (bit (n % 32) (raw b (39 + n / 32))))
 valueOf b Rights = rights (rightsOf (raw b 4))
 valueOf b StylePosition = position (float (raw b 2)) (percentOf (raw b 3))
 valueOf b OpticalSizes = sizes (sizesOf (raw b 46) (raw b 47))
-
--- p is above L
-unfoldable pub above : ℕ → ℕ → Bool
-above p L = ltb L p
-
--- what came in with version p is not known "if p is above L"; "Three more are not known when w is above L"
-unfoldable pub unknown : (p : ℕ) → Bool → (L w : ℕ) → Bool
-unknown p whole L w = above p L || (whole && above w L)
-
--- "else absent if p is above w; else the value"
-unfoldable pub caseOf : (p : ℕ) → Bool → (L w : ℕ) → Case
-caseOf p whole L w = cond (unknown p whole L w) Case·.NotKnown (cond (above p w) Case·.Absent Case·.Value)
 
 -- the answer in each case
 abbrev pub saidCase : Case → Value → Said

@@ -7,9 +7,10 @@ use Rattle.outcomes.specs.Outcomes.{Outcome, answered, accepted}
 use Rattle.os2_fields.specs.Fields.{version}
 use Rattle.os2_acceptance.specs.Settled.{Accepted}
 use Rattle.os2_acceptance.specs.Demands.{trimmed}
-use Rattle.os2_answers.specs.declared.Question.{Question}
+use Rattle.os2_questions.specs.declared.Question.{Question}
+use Rattle.os2_questions.specs.Settled.{CameIn, Later}
 use Rattle.os2_answers.specs.Values.{Said, not-known}
-use Rattle.os2_answers.specs.Settled.{CameIn, Later, Settled}
+use Rattle.os2_answers.specs.Settled.{Settled}
 
 -- demands 1 and 2, of a reader: to any question on any bytes at any number for a level, the answer that document 01 settles
 abbrev pub AnswersSettled : (ℕ → List ℕ → Question → Outcome Said) → Type 0

@@ -1,5 +1,4 @@
 pub mod Values
-pub mod Questions
 pub mod Asking
 pub mod Reading
 pub mod Replies

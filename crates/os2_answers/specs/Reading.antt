@@ -7,8 +7,8 @@ use Rattle.os2_fields.specs.declared.catalogue.Field.{Field}
 use Rattle.os2_fields.specs.Fields.{version}
 use Rattle.os2_fields.specs.Reading.{Lies}
 use Rattle.os2_acceptance.specs.Acceptance.{judged}
-use Rattle.os2_answers.specs.declared.Question.{Question}
-use Rattle.os2_answers.specs.Questions.{ownRefusal}
+use Rattle.os2_questions.specs.declared.Question.{Question}
+use Rattle.os2_questions.specs.Questions.{ownRefusal}
 
 -- a question whose number is in its range, of a table that level L accepts
 pub record Asked (L : ℕ) (b : List ℕ) (q : Question) : Type 0 where

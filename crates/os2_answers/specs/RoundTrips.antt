@@ -11,8 +11,8 @@ use Rattle.level.specs.Sizes.{tableSize}
 use Rattle.os2_fields.specs.Fields.{version}
 use Rattle.os2_store.specs.Writing.{numberFor, InVersion, Holds}
 use Rattle.os2_acceptance.specs.Settled.{Accepted}
-use Rattle.os2_answers.specs.declared.Question.{Question}
-use Rattle.os2_answers.specs.declared.Question.the-variants.{Field}
+use Rattle.os2_questions.specs.declared.Question.{Question}
+use Rattle.os2_questions.specs.declared.Question.the-variants.{Field}
 use Rattle.os2_answers.specs.Values.{integer, Said, value}
 
 -- a reader at level 5 gives the numbers xs for the fields that version v has, whatever stands in xs for the others

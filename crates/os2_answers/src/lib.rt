@@ -1,11 +1,11 @@
-// What answers a question on an 'OS/2' table that a level accepts: the three cases of an answer, then the value.
+// What answers a question on an 'OS/2' table that a level accepts: which of the three things the answer is, then the value.
 // Document 01, "Questions on an accepted OS/2 table", and demand 3.
-// Relies on `os2_acceptance` for acceptance, `os2_fields` for what stands in the fields, and `os2_style` for the last three questions' values.
+// Relies on `os2_questions` for the case of an answer, `os2_acceptance` for acceptance, `os2_fields` for what stands in the fields, and `os2_style` for the last
+// three questions' values.
 ghost use mathlib.Core.Path.{_≡_};
 ghost use mathlib.Core.Bool.{false};
 ghost use mathlib.Core.Option.{none};
-ghost use Prim.Native.Nat.{_≤_, _<_};
-ghost use lib.ListN.{length};
+ghost use Prim.Native.Nat.{_<_};
 ghost use lib.IntN.{pos};
 ghost use Rattle.level.specs.Levels.{numberOf};
 ghost use Rattle.os2_rules.specs.Bits.{bit};
@@ -13,9 +13,9 @@ ghost use Rattle.os2_fields.specs.Catalogue.{fieldCount};
 ghost use Rattle.os2_fields.specs.Fields.{rawIn, version};
 ghost use Rattle.os2_fields.specs.Reading.{Lies};
 ghost use Rattle.os2_acceptance.specs.Acceptance.{judged};
+ghost use Rattle.os2_questions.specs.Cases.{caseOf};
 ghost use Rattle.os2_answers.specs.Values.{integer, fieldValue};
-ghost use Rattle.os2_answers.specs.Questions.{since};
-ghost use Rattle.os2_answers.specs.Asking.{above, unknown, caseOf, saidCase, given};
+ghost use Rattle.os2_answers.specs.Asking.{saidCase, given};
 ghost use Rattle.os2_answers.specs.Reading.{Asked, BitIn};
 ghost use Rattle.os2_answers.specs.Replies.{saidAnswer, saidRightsAnswer, saidStyleAnswer, saidOpticalAnswer};
 use level::Level;
@@ -26,33 +26,14 @@ use os2_fields::LOWER_SIZE_ENTRY;
 use os2_fields::UPPER_SIZE_ENTRY;
 use os2_fields::WEIGHT_ENTRY;
 use os2_fields::WIDTH_ENTRY;
+use os2_questions::Case;
+use os2_questions::Question;
+use os2_questions::case_of;
+use os2_questions::code_page_since;
+use os2_questions::selection_since;
 use os2_style::EmbeddingRights;
 use os2_style::OpticalSizes;
 use os2_style::StylePosition;
-
-// The seven questions.
-pub enum Question {
-    // A field, 0 to 47; 6 above.
-    Field(u32),
-    // A bit of fsSelection, 0 to 9; 7 above.
-    SelectionBit(u32),
-    // A bit of the Unicode ranges, 0 to 127; 7 above.
-    UnicodeBit(u32),
-    // A bit of the code pages, 0 to 63; 7 above.
-    CodePageBit(u32),
-    Rights,
-    StylePosition,
-    OpticalSizes,
-}
-
-// Which of document 01's three things an answer is.
-pub enum Case {
-    // What is asked for came in after the level, or is asked of the whole of a table that did.
-    NotKnown,
-    // The table's version is below that of what is asked for.
-    Absent,
-    Value,
-}
 
 // The answer on a field or a bit. A bit is 0 or 1.
 pub enum Answer {
@@ -83,46 +64,6 @@ pub enum OpticalAnswer {
     Value(OpticalSizes),
     Absent,
     NotKnown,
-}
-
-// The version that bits 7 to 9 of fsSelection came in with.
-const LATER_BITS_SINCE: u32 = 4;
-
-// The case of what came in with version p. `whole` is for the three questions that are not known of a newer table.
-// It reads the table's version itself, and only where the level knows of p: the compiler then tells the cases apart by a jump each, and makes no number of them.
-pub fn case_of(table: &[u8], known: Level, p: u32, whole: bool) -> Case
-    requires { ⌜ 2 ≤ length (now table) ⌝ }
-    ensures { λ r. ⌜ r ≡ caseOf p whole (numberOf known) (version (now (table .entry))) ⌝ }
-{
-    if unknown(table, known, p, whole) {
-        return Case::NotKnown;
-    }
-    if above(p, os2_fields::version_of(table)) {
-        return Case::Absent;
-    }
-    Case::Value
-}
-
-// Whether it is not known to the level.
-fn unknown(table: &[u8], known: Level, p: u32, whole: bool) -> bool
-    requires { ⌜ 2 ≤ length (now table) ⌝ }
-    ensures { λ r. ⌜ r ≡ unknown p whole (numberOf known) (version (now (table .entry))) ⌝ }
-{
-    let level = known.number();
-    if above(p, level) {
-        return true;
-    }
-    if whole {
-        return above(os2_fields::version_of(table), level);
-    }
-    false
-}
-
-// Whether a version is above a level, or above another version.
-fn above(p: u32, bound: u32) -> bool
-    ensures { λ r. ⌜ r ≡ above p bound ⌝ }
-{
-    bound < p
 }
 
 // A field of an accepted table.
@@ -169,7 +110,7 @@ pub fn code_page_answer(table: &[u8], known: Level, n: u32) -> Answer
     ensures { λ r. ⌜ saidAnswer r ≡ given (numberOf known) (now (table .entry)) (Question.CodePageBit n) ⌝ }
 {
     let pages = os2_fields::code_pages(n / 32);
-    bit_in(table, known, pages.since as u32, pages, n % 32)
+    bit_in(table, known, code_page_since(n), pages, n % 32)
 }
 
 // A bit of a field of an accepted table, of what came in with version p.
@@ -184,17 +125,6 @@ fn bit_in(table: &[u8], known: Level, p: u32, f: Field, n: u32) -> Answer
             let number = os2_fields::number(table, f);
             Answer::Value(os2_fields::plain(os2_fields::bit_of(number, n)))
         }
-    }
-}
-
-// The version that a bit of fsSelection came in with.
-fn selection_since(n: u32) -> u32
-    ensures { λ r. ⌜ r ≡ since (Question.SelectionBit n) ⌝ }
-{
-    if n < 7 {
-        FSSELECTION_ENTRY.since as u32
-    } else {
-        LATER_BITS_SINCE
     }
 }
 

@@ -12,12 +12,12 @@ use Rattle.os2_fields.specs.Catalogue.{fieldOf}
 use Rattle.os2_fields.specs.Fields.{raw, version, valuesOf}
 use Rattle.os2_fields.specs.Reading.{Lies, Word}
 use Rattle.os2_acceptance.proofs.Accepting.{open-lies, open-word, open-rules}
-use Rattle.os2_answers.specs.declared.Question.{Question}
-use Rattle.os2_answers.specs.declared.Question.the-variants.{Field, Rights, StylePosition, OpticalSizes}
-use Rattle.os2_answers.specs.declared.Case.the-variants.{Value}
-use Rattle.os2_answers.specs.Questions.{since, onWhole}
-use Rattle.os2_answers.specs.Asking.{caseOf}
-use Rattle.os2_answers.proofs.Cases.{Held, held}
+use Rattle.os2_questions.specs.declared.Question.{Question}
+use Rattle.os2_questions.specs.declared.Question.the-variants.{Field, Rights, StylePosition, OpticalSizes}
+use Rattle.os2_questions.specs.declared.Case.the-variants.{Value}
+use Rattle.os2_questions.specs.Questions.{since, onWhole}
+use Rattle.os2_questions.specs.Cases.{caseOf}
+use Rattle.os2_questions.proofs.Cases.{Held, held}
 use Rattle.os2_lines.specs.Listings.{questionOf}
 use Rattle.os2_lines.specs.Reading.{Given}
 

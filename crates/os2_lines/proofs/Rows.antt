@@ -11,8 +11,9 @@ use Rattle.os2_fields.specs.Catalogue.{catalogue, fieldOf}
 use Rattle.os2_fields.specs.Fields.{rawIn, signedOf, valueIn, valuesOf}
 use Rattle.os2_style.specs.Style.{rightsOf, sizesOf}
 use Rattle.os2_acceptance.specs.Acceptance.{underTwo, underSize, short, ruling, judged, checked}
-use Rattle.os2_answers.specs.Questions.{since, onWhole}
-use Rattle.os2_answers.specs.Asking.{valueOf, above, unknown, caseOf, given}
+use Rattle.os2_questions.specs.Questions.{since, onWhole}
+use Rattle.os2_questions.specs.Cases.{above, unknown, caseOf}
+use Rattle.os2_answers.specs.Asking.{valueOf, given}
 use Rattle.lines.specs.Lines.{listed}
 use Rattle.lines.specs.Numerals.{digits, decimal}
 use Rattle.os2_figures.specs.Figures.{signedText, fraction, figure, rightsText, percentHundredths, positionText, pointsText}

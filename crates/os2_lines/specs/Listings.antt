@@ -10,8 +10,8 @@ use Rattle.lines.specs.Numerals.{decimal}
 use Rattle.lines.specs.Lines.{refusedLine, listed}
 use Rattle.os2_fields.specs.Fields.{raw}
 use Rattle.os2_acceptance.specs.Acceptance.{checked}
-use Rattle.os2_answers.specs.declared.Question.{Question}
-use Rattle.os2_answers.specs.declared.Question.the-variants.{Field, Rights, StylePosition, OpticalSizes}
+use Rattle.os2_questions.specs.declared.Question.{Question}
+use Rattle.os2_questions.specs.declared.Question.the-variants.{Field, Rights, StylePosition, OpticalSizes}
 use Rattle.os2_answers.specs.Values.{Value, integer, rights, position, sizes, Said, value, absent, not-known}
 use Rattle.os2_answers.specs.Asking.{given}
 use Rattle.os2_figures.specs.Figures.{signedText, rightsText, positionText, sizesRoom, sizesText}

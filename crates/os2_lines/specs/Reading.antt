@@ -5,9 +5,9 @@ use mathlib.Core.Option.{none}
 use mathlib.Core.List.{List}
 use Rattle.os2_fields.specs.Fields.{version}
 use Rattle.os2_acceptance.specs.Acceptance.{judged}
-use Rattle.os2_answers.specs.declared.Case.the-variants.{Value}
-use Rattle.os2_answers.specs.Questions.{since, onWhole}
-use Rattle.os2_answers.specs.Asking.{caseOf}
+use Rattle.os2_questions.specs.declared.Case.the-variants.{Value}
+use Rattle.os2_questions.specs.Questions.{since, onWhole}
+use Rattle.os2_questions.specs.Cases.{caseOf}
 use Rattle.os2_lines.specs.Listings.{questionOf}
 
 -- a level accepts the table and answers line k with a value

@@ -1,6 +1,6 @@
 // The lines of an 'OS/2' table's listing at a level: the 48 fields, rights, style position and optical sizes.
 // Document 01, "Questions on an accepted OS/2 table"; docs/DECISIONS.md has how the lines read.
-// It relies on `os2_answers` for which case an answer is, on `os2_fields` and `os2_style` for the values, on `os2_figures` for the values as text, and
+// It relies on `os2_questions` for which case an answer is, on `os2_fields` and `os2_style` for the values, on `os2_figures` for the values as text, and
 // on the pieces of lines of `lines`.
 ghost use Prim.Native.Nat.{_+_, _≤_};
 ghost use mathlib.Core.Path.{_≡_};
@@ -11,7 +11,7 @@ ghost use Rattle.lines.specs.Pieces.{Put};
 ghost use Rattle.lines.specs.Lines.{lineOf};
 ghost use Rattle.level.specs.Levels.{numberOf};
 ghost use Rattle.os2_acceptance.specs.Acceptance.{judged};
-ghost use Rattle.os2_answers.specs.Questions.{since};
+ghost use Rattle.os2_questions.specs.Questions.{since};
 ghost use Rattle.os2_answers.specs.Asking.{valueOf, given};
 ghost use Rattle.os2_lines.specs.Listings.{answerRoom, valueText, answerText, questionOf, nameOf, lineAt};
 ghost use Rattle.os2_lines.specs.Reading.{Given};
@@ -20,14 +20,14 @@ use lines::LINE_ROOM;
 use lines::Line;
 use lines::put;
 use lines::put_numbered;
-use os2_answers::Case;
-use os2_answers::case_of;
 use os2_fields::FSTYPE_ENTRY;
 use os2_fields::LOWER_SIZE_ENTRY;
 use os2_fields::UPPER_SIZE_ENTRY;
 use os2_fields::WEIGHT_ENTRY;
 use os2_fields::WIDTH_ENTRY;
 use os2_fields::word;
+use os2_questions::Case;
+use os2_questions::case_of;
 
 // How many lines there are.
 pub const LINE_COUNT: usize = 51;

@@ -14,8 +14,9 @@ use Rattle.os2_rules.specs.Tests.{weightBroken, widthBroken, typeBroken, rights
 use Rattle.os2_fields.specs.Catalogue.{catalogue, fieldOf}
 use Rattle.os2_fields.specs.Fields.{rawIn, valuesOf}
 use Rattle.os2_acceptance.specs.Acceptance.{underTwo, underSize, short, ruling, judged, checked}
-use Rattle.os2_answers.specs.Questions.{ownRefusal, since, onWhole}
-use Rattle.os2_answers.specs.Asking.{valueOf, above, unknown, caseOf, given, beforeTable, ask}
+use Rattle.os2_questions.specs.Questions.{ownRefusal, since, onWhole}
+use Rattle.os2_questions.specs.Cases.{above, unknown, caseOf}
+use Rattle.os2_answers.specs.Asking.{valueOf, given, beforeTable, ask}
 use Rattle.name_layout.specs.Keys.{Key}
 use Rattle.name_layout.specs.Layout.{tagCount, tagsAt}
 use Rattle.name_tests.specs.Tests.{tooShort, otherFormat, recordsPass, tagsPass, misplaced}

@@ -13,7 +13,7 @@ use Rattle.name.specs.Acceptance.{checkOf}
 use Rattle.name_search.specs.declared.Text.{Text}
 use Rattle.name_lookup.specs.Answers.{lookupOf}
 use Rattle.os2_acceptance.specs.Acceptance.{checked}
-use Rattle.os2_answers.specs.declared.Question.the-variants.{SelectionBit}
+use Rattle.os2_questions.specs.declared.Question.the-variants.{SelectionBit}
 use Rattle.os2_answers.specs.Values.{Said, value, not-known, integer}
 use Rattle.os2_answers.specs.Asking.{ask}
 use Rattle.os2_answers.specs.Examples.{with, first}

@@ -3,8 +3,8 @@
 use mathlib.Core.Path.{sym, ap, _∙_}
 use native.Mathlib.Omega.{arith}
 use Rattle.outcomes.specs.Outcomes.{bare}
-use Rattle.os2_answers.specs.Questions.{ownRefusal}
-use Rattle.os2_answers.proofs.Settling.{under}
+use Rattle.os2_questions.specs.Questions.{ownRefusal}
+use Rattle.os2_questions.proofs.Settling.{under}
 use Rattle.os2.specs.Replies.{saidOpening}
 use Rattle.os2.proofs.Asked.{asked-refused, asked-parts, asked-answered}
 use borrow.Author.Needs.{needs}

@@ -7,10 +7,11 @@ use mir.Facts.{toZ-ofZ}
 use Rattle.level.specs.Levels.{numberOf}
 use Rattle.os2_fields.specs.Fields.{version}
 use Rattle.os2_acceptance.proofs.Accepting.{open-two}
-use Rattle.os2_answers.specs.declared.Case.{Case}
+use Rattle.os2_questions.specs.declared.Case.{Case}
+use Rattle.os2_questions.specs.Cases.{caseOf}
+use Rattle.os2_questions.proofs.Cases.{held}
 use Rattle.os2_answers.specs.Values.{Value, value, integer}
-use Rattle.os2_answers.specs.Asking.{caseOf, saidCase}
-use Rattle.os2_answers.proofs.Cases.{held}
+use Rattle.os2_answers.specs.Asking.{saidCase}
 use borrow.Author.Needs.{needs}
 use Rattle.os2_answers.proofs.bit_in.Statement.{statement}
 use Rattle.os2_answers.proofs.bit_in.Tie as tie

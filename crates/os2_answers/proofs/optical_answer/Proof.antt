@@ -7,11 +7,13 @@ use Rattle.level.specs.Levels.{numberOf}
 use Rattle.os2_fields.specs.Catalogue.{catalogue, fieldOf}
 use Rattle.os2_fields.specs.Fields.{version}
 use Rattle.os2_acceptance.proofs.Accepting.{open-two, open-word}
-use Rattle.os2_answers.specs.declared.Question.the-variants.{OpticalSizes}
+use Rattle.os2_questions.specs.declared.Question.the-variants.{OpticalSizes}
+use Rattle.os2_questions.specs.Questions.{since, onWhole}
+use Rattle.os2_questions.specs.Cases.{caseOf}
+use Rattle.os2_questions.proofs.Cases.{held}
 use Rattle.os2_answers.specs.Values.{value, sizes}
-use Rattle.os2_answers.specs.Questions.{since, onWhole}
-use Rattle.os2_answers.specs.Asking.{caseOf, valueOf}
-use Rattle.os2_answers.proofs.Cases.{held, given-case}
+use Rattle.os2_answers.specs.Asking.{valueOf}
+use Rattle.os2_answers.proofs.Cases.{given-case}
 use borrow.Author.Needs.{needs}
 use Rattle.os2_answers.proofs.optical_answer.Statement.{statement}
 use Rattle.os2_answers.proofs.optical_answer.Tie as tie

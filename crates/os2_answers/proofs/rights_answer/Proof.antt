@@ -9,10 +9,11 @@ use Rattle.os2_fields.specs.Catalogue.{catalogue, fieldOf}
 use Rattle.os2_fields.specs.Fields.{version}
 use Rattle.os2_style.specs.Style.{rightsOf}
 use Rattle.os2_acceptance.proofs.Accepting.{open-two, open-word}
-use Rattle.os2_answers.specs.declared.Question.the-variants.{Rights}
+use Rattle.os2_questions.specs.declared.Question.the-variants.{Rights}
+use Rattle.os2_questions.specs.Questions.{since, onWhole}
+use Rattle.os2_questions.specs.Cases.{caseOf}
 use Rattle.os2_answers.specs.Values.{value, rights}
-use Rattle.os2_answers.specs.Questions.{since, onWhole}
-use Rattle.os2_answers.specs.Asking.{caseOf, valueOf}
+use Rattle.os2_answers.specs.Asking.{valueOf}
 use Rattle.os2_answers.proofs.Cases.{given-case}
 use borrow.Author.Needs.{needs}
 use Rattle.os2_answers.proofs.rights_answer.Statement.{statement}

@@ -5,9 +5,9 @@ use native.Mathlib.Omega.{arith}
 use Rattle.outcomes.specs.Outcomes.{bare}
 use Rattle.os2_fields.specs.Catalogue.{catalogue, fieldOf}
 use Rattle.os2_acceptance.proofs.Accepting.{open-lies}
-use Rattle.os2_answers.specs.Questions.{ownRefusal, onWhole}
+use Rattle.os2_questions.specs.Questions.{ownRefusal, onWhole}
+use Rattle.os2_questions.proofs.Settling.{under}
 use Rattle.os2_answers.specs.Asking.{valueOf, given}
-use Rattle.os2_answers.proofs.Settling.{under}
 use borrow.Author.Needs.{needs}
 use Rattle.os2_answers.proofs.selection_answer.Statement.{statement}
 use Rattle.os2_answers.proofs.selection_answer.Tie as tie

@@ -6,9 +6,9 @@ use Rattle.outcomes.specs.Outcomes.{bare}
 use Rattle.os2_fields.specs.Catalogue.{fieldOf}
 use Rattle.os2_fields.proofs.Tiling.{range-since}
 use Rattle.os2_acceptance.proofs.Accepting.{open-lies}
-use Rattle.os2_answers.specs.Questions.{ownRefusal, since, onWhole}
+use Rattle.os2_questions.specs.Questions.{ownRefusal, since, onWhole}
+use Rattle.os2_questions.proofs.Settling.{under}
 use Rattle.os2_answers.specs.Asking.{valueOf, given}
-use Rattle.os2_answers.proofs.Settling.{under}
 use borrow.Author.Needs.{needs}
 use Rattle.os2_answers.proofs.unicode_answer.Statement.{statement}
 use Rattle.os2_answers.proofs.unicode_answer.Tie as tie

@@ -5,8 +5,8 @@ use native.Mathlib.Omega.{arith}
 use Rattle.level.specs.Levels.{numberOf}
 use Rattle.os2_fields.specs.Fields.{version}
 use Rattle.os2_acceptance.proofs.Accepting.{open-two}
-use Rattle.os2_answers.specs.Questions.{since, onWhole}
-use Rattle.os2_answers.specs.Asking.{caseOf}
+use Rattle.os2_questions.specs.Questions.{since, onWhole}
+use Rattle.os2_questions.specs.Cases.{caseOf}
 use Rattle.os2_answers.proofs.Cases.{given-case}
 use Rattle.lines.proofs.Pieces.{put-as}
 use Rattle.os2_lines.specs.Listings.{answerText, questionOf}

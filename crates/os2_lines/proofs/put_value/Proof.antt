@@ -5,7 +5,7 @@ use native.Mathlib.Omega.{arith}
 use Rattle.os2_fields.specs.Catalogue.{catalogue, fieldOf}
 use Rattle.os2_fields.specs.Fields.{valueIn}
 use Rattle.os2_style.specs.Style.{rightsOf}
-use Rattle.os2_answers.specs.declared.Question.the-variants.{OpticalSizes}
+use Rattle.os2_questions.specs.declared.Question.the-variants.{OpticalSizes}
 use Rattle.os2_answers.specs.Asking.{valueOf}
 use Rattle.os2_figures.specs.Figures.{signedText, rightsText}
 use Rattle.os2_figures.proofs.Laws.{kept}

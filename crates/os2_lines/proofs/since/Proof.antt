@@ -2,7 +2,7 @@
 -- Assumes nothing.
 use mathlib.Core.Path.{ap}
 use Rattle.os2_fields.specs.declared.catalogue.Field.{Field}
-use Rattle.os2_answers.specs.Questions.{since}
+use Rattle.os2_questions.specs.Questions.{since}
 use Rattle.os2_lines.proofs.Laws.{field-line, rights-line, style-line, sizes-line}
 use borrow.Author.Needs.{needs}
 use Rattle.os2_lines.proofs.since.Statement.{statement}

@@ -2,8 +2,8 @@
 -- Assumes nothing.
 use borrow.Author.Tests.{lt-ltb, le-ltb}
 use Rattle.outcomes.specs.Firsts.{when}
-use Rattle.os2.proofs.at_most.Statement.{statement}
-use Rattle.os2.proofs.at_most.Tie as tie
+use Rattle.os2_questions.proofs.at_most.Statement.{statement}
+use Rattle.os2_questions.proofs.at_most.Tie as tie
 
 returns : tie.Need-returns
 unfolding when

@@ -2,10 +2,10 @@
 -- Assumes nothing.
 use mathlib.Core.Path.{_≡_, sym, ap, _∙_}
 use Rattle.level.specs.Levels.{numberOf}
-use Rattle.os2_answers.specs.Asking.{above, unknown}
+use Rattle.os2_questions.specs.Cases.{above, unknown}
 use borrow.Author.Needs.{needs}
-use Rattle.os2_answers.proofs.unknown.Statement.{statement}
-use Rattle.os2_answers.proofs.unknown.Tie as tie
+use Rattle.os2_questions.proofs.unknown.Statement.{statement}
+use Rattle.os2_questions.proofs.unknown.Tie as tie
 
 -- the test of the level's number
 later : (c : tie.After-above) → let args = c .before .before .before .args in c .above .result ≡ above (args .p) (numberOf (args .known))

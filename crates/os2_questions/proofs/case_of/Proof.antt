@@ -1,12 +1,11 @@
 -- Each return is the case of the definition that the tests before it pick.
 -- Assumes nothing.
 use mathlib.Core.Path.{_≡_, sym, ap, _∙_}
-use mathlib.Core.Bool.{Bool, false}
 use Rattle.os2_fields.specs.Fields.{version}
-use Rattle.os2_answers.specs.Asking.{above, caseOf}
+use Rattle.os2_questions.specs.Cases.{above, caseOf}
 use borrow.Author.Needs.{needs}
-use Rattle.os2_answers.proofs.case_of.Statement.{statement}
-use Rattle.os2_answers.proofs.case_of.Tie as tie
+use Rattle.os2_questions.proofs.case_of.Statement.{statement}
+use Rattle.os2_questions.proofs.case_of.Tie as tie
 
 -- the test of the table's version
 there : (c : tie.After-above) →

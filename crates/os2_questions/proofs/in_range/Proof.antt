@@ -1,9 +1,9 @@
 -- Each arm is the question's own range and refusal.
 -- Assumes nothing.
-use Rattle.os2_answers.specs.Questions.{ownRefusal}
+use Rattle.os2_questions.specs.Questions.{ownRefusal}
 use borrow.Author.Needs.{needs}
-use Rattle.os2.proofs.in_range.Statement.{statement}
-use Rattle.os2.proofs.in_range.Tie as tie
+use Rattle.os2_questions.proofs.in_range.Statement.{statement}
+use Rattle.os2_questions.proofs.in_range.Tie as tie
 
 returns : tie.Need-returns
 unfolding ownRefusal

@@ -1,9 +1,9 @@
 -- The test is the definition.
 -- Assumes nothing.
 use mathlib.Core.Path.{refl}
-use Rattle.os2_answers.specs.Asking.{above}
-use Rattle.os2_answers.proofs.above.Statement.{statement}
-use Rattle.os2_answers.proofs.above.Tie as tie
+use Rattle.os2_questions.specs.Cases.{above}
+use Rattle.os2_questions.proofs.above.Statement.{statement}
+use Rattle.os2_questions.proofs.above.Tie as tie
 
 returns : tie.Need-returns
 unfolding above

@@ -1,10 +1,10 @@
 -- The two returns are the two cases of the definition.
 -- Assumes nothing.
-use Rattle.os2_answers.specs.Questions.{since}
-use Rattle.os2_answers.proofs.Cases.{decided}
+use Rattle.os2_questions.specs.Questions.{since}
+use Rattle.os2_questions.proofs.Cases.{decided}
 use borrow.Author.Needs.{needs}
-use Rattle.os2_answers.proofs.selection_since.Statement.{statement}
-use Rattle.os2_answers.proofs.selection_since.Tie as tie
+use Rattle.os2_questions.proofs.selection_since.Statement.{statement}
+use Rattle.os2_questions.proofs.selection_since.Tie as tie
 
 returns : tie.Need-returns
 unfolding since

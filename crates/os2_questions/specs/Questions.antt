@@ -6,8 +6,8 @@ use lib.Dec.{ltb}
 use Rattle.outcomes.specs.Firsts.{when}
 use Rattle.outcomes.specs.Outcomes.{Refusal, bare}
 use Rattle.os2_fields.specs.Catalogue.{fieldOf}
-use Rattle.os2_answers.specs.declared.Question.{Question}
-use Rattle.os2_answers.specs.declared.Question.the-variants.{Field, SelectionBit, UnicodeBit, CodePageBit, Rights, StylePosition, OpticalSizes}
+use Rattle.os2_questions.specs.declared.Question.{Question}
+use Rattle.os2_questions.specs.declared.Question.the-variants.{Field, SelectionBit, UnicodeBit, CodePageBit, Rights, StylePosition, OpticalSizes}
 
 -- 6: "field number above 47"; 7: "bit number out of its range"
 unfoldable pub ownRefusal : Question → Option Refusal
