@@ -1,23 +1,20 @@
 -- What `ask` answers is what document 01 settles, and nothing else is settled: each test of the definition is matched with its proposition.
 -- Assumes nothing.
-use Prim.Native.Nat.{ℕ, zero, suc, _<_, _≤_}
+use Prim.Native.Nat.{ℕ, _<_, _≤_}
 use mathlib.Core.Path.{_≡_, refl, sym, ap, _∙_}
-use mathlib.Core.Bool.{Bool, true, false, cond}
+use mathlib.Core.Bool.{Bool, true, false}
 use mathlib.Core.Option.{Option, none, some}
 use mathlib.Core.List.{List}
 use native.Mathlib.Decide.{decLt}
 use native.Mathlib.Omega.{arith}
-use lib.Dec.{ltb, eqb}
-use borrow.Author.Tests.{lt-ltb, le-ltb, eq-eqb, ne-eqb, ltb-true, ltb-false, eqb-true, eqb-false}
+use borrow.Author.Tests.{lt-ltb, le-ltb}
 use Rattle.outcomes.specs.Firsts.{when, _then_}
 use Rattle.outcomes.specs.Outcomes.{Refusal, Outcome, refused, answered, unless}
 use Rattle.outcomes.proofs.Tests.{fails}
 use Rattle.level.specs.Levels.{newest}
-use Rattle.os2_rules.specs.Bits.{bit}
 use Rattle.os2_rules.specs.Rules.{RightsRule}
-use Rattle.os2_rules.proofs.Exactly.{bit-small}
 use Rattle.os2_fields.specs.Fields.{raw, version, valuesOf}
-use Rattle.os2_style.specs.Style.{Sizes, every, upwards, between, rightsOf, points, sizesOf}
+use Rattle.os2_style.proofs.Settling.{rights-are, rights-once, sizes-are, sizes-once}
 use Rattle.os2_acceptance.specs.Acceptance.{judged}
 use Rattle.os2_acceptance.specs.Settled.{Accepted}
 use Rattle.os2_acceptance.proofs.Accepting.{judged-exactly, judged-short, judged-broken, judged-ways}
@@ -29,63 +26,12 @@ use Rattle.os2_questions.proofs.Cases.{above-exactly, not-above, known-exactly}
 use Rattle.os2_questions.proofs.Settling.{own, own-is, came, came-since, unknownTo, later-is, later-exactly}
 use Rattle.os2_answers.specs.Values.{Value, rights, sizes, Said}
 use Rattle.os2_answers.specs.Asking.{valueOf, given, beforeTable, ask}
-use Rattle.os2_answers.specs.Settled.{RightsAre, none-set, one-set, SizesAre, all, from-lower, both}
 use Rattle.os2_answers.specs.Settled.{Says, field-says, selection-says, unicode-says, code-page-says, rights-say, style-says, optical-says}
 use Rattle.os2_answers.specs.Settled.{Settled, level-above, own-number, too-short, rule-broken, is-not-known, is-absent, is-value}
 use Rattle.os2_answers.specs.Demands.{AnswersSettled}
 use Rattle.os2_answers.proofs.Cases.{given-not-known, given-absent, given-value}
 
 -- ---- the values
-
-module _ (fstype : ℕ) where
-  rights-are : RightsAre fstype (rightsOf fstype)
-  unfolding rightsOf
-  rights-are = three (ltb 0 (bit 3 fstype)) refl
-    where
-      set : (k : ℕ) → ltb 0 (bit k fstype) ≡ true → bit k fstype ≡ 1
-      set k e = omega (arith, ltb-true 0 (bit k fstype) e, bit-small k fstype)
-
-      clear : (k : ℕ) → ltb 0 (bit k fstype) ≡ false → bit k fstype ≡ 0
-      clear k e = omega (arith, ltb-false 0 (bit k fstype) e)
-
-      one : bit 3 fstype ≡ 0 → bit 2 fstype ≡ 0 → (t : Bool) → ltb 0 (bit 1 fstype) ≡ t → RightsAre fstype (cond t 1 0)
-      one z y true e = one-set {k = 1} (omega arith) (omega arith) (set 1 e)
-      one z y false e = none-set (clear 1 e) y z
-
-      two : bit 3 fstype ≡ 0 → (t : Bool) → ltb 0 (bit 2 fstype) ≡ t → RightsAre fstype (cond t 2 (cond (ltb 0 (bit 1 fstype)) 1 0))
-      two z true e = one-set {k = 2} (omega arith) (omega arith) (set 2 e)
-      two z false e = one z (clear 2 e) (ltb 0 (bit 1 fstype)) refl
-
-      three : (t : Bool) → ltb 0 (bit 3 fstype) ≡ t → RightsAre fstype (cond t 3 (cond (ltb 0 (bit 2 fstype)) 2 (cond (ltb 0 (bit 1 fstype)) 1 0)))
-      three true e = one-set {k = 3} (omega arith) (omega arith) (set 3 e)
-      three false e = two (clear 3 e) (ltb 0 (bit 2 fstype)) refl
-
-  -- while at most one bit is set, there is one answer
-  rights-once : (w k : ℕ) → RightsRule w fstype → RightsAre fstype k → k ≡ rightsOf fstype
-  unfolding rightsOf
-  rights-once w zero r (none-set a b c) = rw (a, b, c)
-  rights-once w zero r (one-set l m e) = absurd (omega arith)
-  rights-once w (suc zero) r (one-set l m e) = let y : bit 2 fstype ≡ 0 = omega arith in let z : bit 3 fstype ≡ 0 = omega arith in rw (e, y, z)
-  rights-once w (suc (suc zero)) r (one-set l m e) = let z : bit 3 fstype ≡ 0 = omega arith in rw (e, z)
-  rights-once w (suc (suc (suc zero))) r (one-set l m e) = rw e
-  rights-once w (suc (suc (suc (suc k)))) r (one-set l m e) = absurd (omega arith)
-
-module _ (lower upper : ℕ) where
-  sizes-are : SizesAre lower upper (sizesOf lower upper)
-  unfolding sizesOf
-  sizes-are = at (eqb upper 65535) refl (eqb lower 0) refl
-    where
-      at : (s : Bool) → eqb upper 65535 ≡ s → (t : Bool) → eqb lower 0 ≡ t →
-          SizesAre lower upper (cond s (cond t every (upwards (points lower))) (between (points lower) (points upper)))
-      at true u true l = all (eqb-true lower 0 l) (eqb-true upper 65535 u)
-      at true u false l = from-lower (eqb-false lower 0 l) (eqb-true upper 65535 u)
-      at false u t l = both (eqb-false upper 65535 u)
-
-  sizes-once : {s : Sizes} → SizesAre lower upper s → s ≡ sizesOf lower upper
-  unfolding sizesOf
-  sizes-once (all l u) = rw (eq-eqb upper 65535 u, eq-eqb lower 0 l)
-  sizes-once (from-lower l u) = rw (eq-eqb upper 65535 u, ne-eqb lower 0 l)
-  sizes-once (both u) = rw (ne-eqb upper 65535 u)
 
 pub says : (b : List ℕ) (q : Question) → Says b q (valueOf b q)
 unfolding valueOf

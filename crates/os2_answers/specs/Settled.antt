@@ -9,7 +9,8 @@ use Rattle.level.specs.Levels.{newest}
 use Rattle.os2_rules.specs.Bits.{bit}
 use Rattle.os2_fields.specs.Catalogue.{fieldOf}
 use Rattle.os2_fields.specs.Fields.{raw, version}
-use Rattle.os2_style.specs.Style.{Sizes, every, upwards, between, float, percentOf, points}
+use Rattle.os2_style.specs.Style.{Sizes, float, percentOf}
+use Rattle.os2_style.specs.Settled.{RightsAre, SizesAre}
 use Rattle.os2_acceptance.specs.Settled.{Short, BreaksFirst, Accepted}
 use Rattle.os2_questions.specs.declared.Question.{Question}
 use Rattle.os2_questions.specs.declared.Question.the-variants.{Field, SelectionBit, UnicodeBit, CodePageBit, Rights, StylePosition, OpticalSizes}
@@ -17,17 +18,6 @@ use Rattle.os2_questions.specs.Settled.{OwnRefusal, CameIn, Later}
 use Rattle.os2_answers.specs.Values.{Value, integer, rights, position, sizes, Said, value, absent, not-known, fieldValue}
 
 -- ---- the values
-
--- "installable (none of bits 1 to 3), restricted (1), preview (2), editable (3)"
-pub data RightsAre (fstype : ℕ) : ℕ → Type 0 where
-  none-set : bit 1 fstype ≡ 0 → bit 2 fstype ≡ 0 → bit 3 fstype ≡ 0 → RightsAre fstype 0
-  one-set : {k : ℕ} → 1 ≤ k → k ≤ 3 → bit k fstype ≡ 1 → RightsAre fstype k
-
--- "every size (0 and 65535), from a size upwards (upper 65535), or between two sizes, in points"
-pub data SizesAre (lower upper : ℕ) : Sizes → Type 0 where
-  all : lower ≡ 0 → upper ≡ 65535 → SizesAre lower upper every
-  from-lower : (lower ≡ 0 → ⊥) → upper ≡ 65535 → SizesAre lower upper (upwards (points lower))
-  both : (upper ≡ 65535 → ⊥) → SizesAre lower upper (between (points lower) (points upper))
 
 -- the value that a table has for a question. "Unicode bit n (0 to 127) is bit n mod 32, counted from the low end, of range n div 32";
 -- the ranges are fields 26 to 29, the code pages 39 and 40
