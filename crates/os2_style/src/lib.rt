@@ -62,15 +62,22 @@ pub fn rights_of(fstype: u16) -> EmbeddingRights
     EmbeddingRights::Installable
 }
 
-const PERCENTS: [f32; 9] = [50.0, 62.5, 75.0, 87.5, 100.0, 112.5, 125.0, 150.0, 200.0];
-
 // The percentage of a width class.
 fn percent(width: u16) -> f32
     requires { ⌜ WidthRule width ⌝ }
     ensures { λ r. ⌜ r ≡ percentOf width ⌝ }
 {
-    let i = (width - 1) as usize;
-    PERCENTS[i]
+    match width {
+        1 => 50.0,
+        2 => 62.5,
+        3 => 75.0,
+        4 => 87.5,
+        5 => 100.0,
+        6 => 112.5,
+        7 => 125.0,
+        8 => 150.0,
+        _ => 200.0,
+    }
 }
 
 // The style position, from the weight and the width class.
