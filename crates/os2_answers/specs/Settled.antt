@@ -1,6 +1,5 @@
 -- What document 01 settles of a question, in propositions: which refusal or which answer it has.
 use Prim.Native.Nat.{ℕ, _+_, _/_, _%_, _<_, _≤_}
-use mathlib.Core.Path.{_≡_}
 use mathlib.Core.Option.{none, some}
 use mathlib.Core.List.{List}
 use lib.IntN.{pos}
