@@ -71,7 +71,7 @@ extern "C" {
  *   1  weight 1 to 1000
  *   2  width 1 to 9
  *   3  fsType bits 0, 4 to 7, 10 to 15 clear
- *   4  at most one of fsType bits 1, 2, 3 set
+ *   4  in versions from 3 on, at most one of fsType bits 1, 2, 3 set
  *   5  fsSelection bits 10 to 15 clear, and bits 7 to 9 clear in versions below 4
  *   6  fsSelection bit 6 set means bits 0 and 5 clear
  *   7  in version 5, lower optical size below upper
@@ -138,7 +138,8 @@ typedef struct gv_number {
     int64_t value;
 } gv_number;
 
-/* What fsType allows. */
+/* What fsType allows: editable if bit 3 is set, else preview if bit 2, else restricted if bit 1, else installable. More than
+   one of these bits may be set only in versions 0 to 2. */
 #define GV_INSTALLABLE 0u
 #define GV_RESTRICTED 1u
 #define GV_PREVIEW 2u

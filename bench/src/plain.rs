@@ -319,7 +319,7 @@ pub fn rules(v: &Values) -> Result<()> {
     if v.fstype & 0xfcf1 != 0 {
         return refuse_at(3, 3);
     }
-    if (v.fstype & 0xe).count_ones() > 1 {
+    if v.version >= 3 && (v.fstype & 0xe).count_ones() > 1 {
         return refuse_at(3, 4);
     }
     if v.fsselection & 0xfc00 != 0 || (v.version < 4 && v.fsselection & 0x0380 != 0) {

@@ -90,14 +90,15 @@ pub mod fields {
     pub const UPPER_SIZE: u32 = 47;
 }
 
-/// What a font's licence allows, by fsType.
+/// What a font's licence allows, by fsType: by the highest of its bits 1 to 3 that is set, which is the least restrictive one. In
+/// versions from 3 on at most one is set, by [`Rule::OneRight`](crate::Rule::OneRight).
 #[derive(Clone, Copy, Debug, PartialEq, Eq, Hash)]
 pub enum Rights {
     /// The font may be installed: none of bits 1 to 3 is set.
     Installable,
-    /// Restricted: bit 1.
+    /// Restricted: bit 1, and neither bit 2 nor bit 3.
     Restricted,
-    /// Preview and print: bit 2.
+    /// Preview and print: bit 2, and not bit 3.
     Preview,
     /// Editable: bit 3.
     Editable,
@@ -265,12 +266,19 @@ pub fn code_page_bit(table: &[u8], level: u32, number: u32) -> Result<Answer<boo
 /// use gyalvindor::os2::{self, Rights};
 /// use gyalvindor::{Answer, Refusal, Rule};
 ///
-/// let mut table = [0; 78];
+/// // Version 2, 96 bytes.
+/// let mut table = [0; 96];
+/// table[1] = 2;
 /// table[4..8].copy_from_slice(&[1, 144, 0, 5]);
 /// assert_eq!(os2::rights(&table, 5), Ok(Answer::Value(Rights::Installable)));
-/// table[9] = 0x04;
+/// table[9] = 0x06;
 /// assert_eq!(os2::rights(&table, 5), Ok(Answer::Value(Rights::Preview)));
 /// table[9] = 0x0C;
+/// assert_eq!(os2::rights(&table, 5), Ok(Answer::Value(Rights::Editable)));
+/// assert_eq!(os2::rights(&table, 1), Ok(Answer::NotKnown));
+///
+/// // From version 3 on the bits exclude each other.
+/// table[1] = 3;
 /// assert_eq!(os2::rights(&table, 5), Err(Refusal::ValueRule(Rule::OneRight)));
 /// ```
 pub fn rights(table: &[u8], level: u32) -> Result<Answer<Rights>, Refusal> {

@@ -114,7 +114,7 @@ pub enum Rule {
     Width,
     /// 3: fsType bits 0, 4 to 7 and 10 to 15 are clear.
     TypeBits,
-    /// 4: at most one of fsType bits 1, 2 and 3 is set.
+    /// 4: in versions from 3 on, at most one of fsType bits 1, 2 and 3 is set.
     OneRight,
     /// 5: fsSelection bits 10 to 15 are clear, and bits 7 to 9 are clear in versions below 4.
     SelectionBits,
@@ -159,7 +159,7 @@ impl fmt::Display for Rule {
             Rule::Weight => "the weight is 1 to 1000",
             Rule::Width => "the width is 1 to 9",
             Rule::TypeBits => "fsType bits 0, 4 to 7 and 10 to 15 are clear",
-            Rule::OneRight => "at most one of fsType bits 1, 2 and 3 is set",
+            Rule::OneRight => "in versions from 3 on, at most one of fsType bits 1, 2 and 3 is set",
             Rule::SelectionBits => {
                 "fsSelection bits 10 to 15 are clear, and bits 7 to 9 are clear in versions below 4"
             }

@@ -1,9 +1,9 @@
 //! A second, independent reader of 'name' tables and reader and writer of
 //! 'OS/2' tables, written from document 01, "The font desk's rules for 'name'
-//! and 'OS/2'", alone.
+//! and 'OS/2'", and Ask 1 of document 02, "The next customer requests", alone.
 //!
 //! It exists to be compared with another program. So it is written for plain
-//! reading in the order of the document, and not for speed.
+//! reading in the order of document 01, and not for speed.
 //!
 //! * [`name`]: the 'name' check, lookup, PostScript question, version question.
 //! * [`os2`]: the 'OS/2' acceptance, the seven questions, the writer, rewriting.

@@ -126,14 +126,15 @@ pub enum Answer<T = i64> {
     NotKnown,
 }
 
-/// Embedding rights, from fsType.
+/// Embedding rights, from fsType. Of several set bits the least restrictive
+/// holds.
 #[derive(Clone, Copy, Debug, PartialEq, Eq)]
 pub enum Rights {
     /// None of bits 1 to 3 is set.
     Installable,
-    /// Bit 1.
+    /// Bit 1 alone.
     Restricted,
-    /// Bit 2.
+    /// Bit 2, without bit 3.
     Preview,
     /// Bit 3.
     Editable,
@@ -240,8 +241,9 @@ fn first_rule_broken(values: &[i64; FIELD_COUNT]) -> Option<u32> {
             return Some(3);
         }
     }
-    // 4. at most one of fsType bits 1, 2, 3 set
-    if bit_of(fs_type, 1) + bit_of(fs_type, 2) + bit_of(fs_type, 3) > 1 {
+    // 4. at most one of fsType bits 1, 2, 3 set. Document 02, Ask 1: "Value
+    // rule 4 shall apply only from version 3."
+    if version >= 3 && bit_of(fs_type, 1) + bit_of(fs_type, 2) + bit_of(fs_type, 3) > 1 {
         return Some(4);
     }
     // 5. fsSelection bits 10 to 15 clear, and bits 7 to 9 clear when the
@@ -373,14 +375,18 @@ pub fn rights(level: u32, table: &[u8]) -> Result<Answer<Rights>, Refusal> {
     if stored_version(table) > level {
         return Ok(Answer::NotKnown);
     }
-    // Rule 4 holds here: at most one of the three bits is set.
+    // Document 02, Ask 1: "For versions 0 to 2 rights are editable if bit 3 is
+    // set, else preview if bit 2, else restricted if bit 1, else installable."
+    // From version 3 on rule 4 leaves at most one of the three bits, so the
+    // same sentence gives what document 01 says: installable (none of bits 1
+    // to 3), restricted (1), preview (2), editable (3).
     let fs_type = stored(table, FIELDS[FS_TYPE]);
-    let rights = if bit_of(fs_type, 1) == 1 {
-        Rights::Restricted
+    let rights = if bit_of(fs_type, 3) == 1 {
+        Rights::Editable
     } else if bit_of(fs_type, 2) == 1 {
         Rights::Preview
-    } else if bit_of(fs_type, 3) == 1 {
-        Rights::Editable
+    } else if bit_of(fs_type, 1) == 1 {
+        Rights::Restricted
     } else {
         Rights::Installable
     };

@@ -183,7 +183,7 @@ fn naive_rule(table: &[u8]) -> Option<u32> {
     if selection & mask != 0 {
         first = Some(5);
     }
-    if (fs_type & 0x000E).count_ones() > 1 {
+    if version >= 3 && (fs_type & 0x000E).count_ones() > 1 {
         first = Some(4);
     }
     if fs_type & 0xFCF1 != 0 {
@@ -263,7 +263,28 @@ fn rule_edges() {
         (0x306, false),
     ] {
         let expected = if good { Ok(()) } else { no_at(3, 4) };
-        assert_eq!(accept(&[(8, fs_type)]), expected);
+        assert_eq!(accept(&[(0, 3), (8, fs_type)]), expected);
+        assert_eq!(accept(&[(0, 4), (8, fs_type)]), expected);
+        // Rule 4 applies only from version 3.
+        for version in 0..3 {
+            assert_eq!(accept(&[(0, version), (8, fs_type)]), Ok(()));
+        }
+    }
+    // The other rules keep their numbers and their order below version 3.
+    for version in 0..3 {
+        let broken = [
+            (&[(4, 0), (8, 0xE)][..], 1),
+            (&[(6, 0), (8, 0xE)], 2),
+            (&[(8, 0xF)], 3),
+            (&[(8, 0x1E)], 3),
+            (&[(8, 0x40E)], 3),
+            (&[(8, 0xE), (62, 0x80)], 5),
+            (&[(8, 0xE), (62, 0x41)], 6),
+        ];
+        for (numbers, rule) in broken {
+            let numbers = [&[(0, version)], numbers].concat();
+            assert_eq!(accept(&numbers), no_at(3, rule), "{numbers:X?}");
+        }
     }
     for version in 0..=4 {
         for bit in 0..16 {
@@ -332,7 +353,7 @@ fn any_table(numbers: &mut Numbers) -> Vec<u8> {
         put(&mut table, 6, width);
     }
     if numbers.below(10) > 0 {
-        let fs_type = numbers.pick(&[0, 2, 4, 8, 0x100, 0x302, 6, 0xE]);
+        let fs_type = numbers.pick(&[0, 2, 4, 8, 0x100, 0x302, 6, 0xA, 0x20C, 0xE]);
         put(&mut table, 8, fs_type);
     }
     if numbers.below(10) > 0 {
@@ -483,20 +504,15 @@ fn every_answer_agrees_with_the_naive_answer() {
             }
             let known = version <= level;
             let rights = if known {
-                Answer::Value(
-                    [
-                        Rights::Installable,
-                        Rights::Restricted,
-                        Rights::Preview,
-                        Rights::Editable,
-                    ][match table[9] & 0xE {
-                        0 => 0,
-                        2 => 1,
-                        4 => 2,
-                        8 => 3,
-                        _ => panic!("rule 4"),
-                    }],
-                )
+                Answer::Value(match table[9] & 0xE {
+                    0 => Rights::Installable,
+                    2 => Rights::Restricted,
+                    4 => Rights::Preview,
+                    8 => Rights::Editable,
+                    _ if version > 2 => panic!("rule 4"),
+                    6 => Rights::Preview,
+                    _ => Rights::Editable,
+                })
             } else {
                 Answer::NotKnown
             };
@@ -645,6 +661,69 @@ fn rights_and_style() {
     assert_eq!(os2::rights(1, &table), Ok(Answer::NotKnown));
     assert_eq!(os2::style_position(1, &table), Ok(Answer::NotKnown));
     assert!(matches!(os2::rights(2, &table), Ok(Answer::Value(_))));
+}
+
+// ---- document 02, Ask 1 ----
+
+/// For each version 0 to 6, for each level 0 to 6, the answers for fsType 0, 2,
+/// 4, 6, 8, 10, 12, 14: I, R, P and E are accepted with the rights installable,
+/// restricted, preview and editable; ? is accepted with the rights not known; 4
+/// is refusal 3 carrying rule 4; 1 is refusal 1.
+#[rustfmt::skip]
+const ASK_1: [[&str; 7]; 7] = [
+    ["IRPPEEEE", "IRPPEEEE", "IRPPEEEE", "IRPPEEEE", "IRPPEEEE", "IRPPEEEE", "11111111"],
+    ["????????", "IRPPEEEE", "IRPPEEEE", "IRPPEEEE", "IRPPEEEE", "IRPPEEEE", "11111111"],
+    ["????????", "????????", "IRPPEEEE", "IRPPEEEE", "IRPPEEEE", "IRPPEEEE", "11111111"],
+    ["????????", "????????", "????????", "IRP4E444", "IRP4E444", "IRP4E444", "11111111"],
+    ["????????", "????????", "????????", "????????", "IRP4E444", "IRP4E444", "11111111"],
+    ["????????", "????????", "????????", "????????", "????????", "IRP4E444", "11111111"],
+    ["????????", "????????", "????????", "????????", "????????", "????????", "11111111"],
+];
+
+/// Each version with each setting of fsType bits 1 to 3 at each level. Bits 8
+/// and 9 change nothing.
+#[test]
+fn ask_1_rule_4_and_rights() {
+    for (version, levels) in (0..).zip(ASK_1) {
+        for (level, answers) in (0..).zip(levels) {
+            for (fs_type, letter) in (0..16).step_by(2).zip(answers.chars()) {
+                let expected = match letter {
+                    'I' => Ok(Answer::Value(Rights::Installable)),
+                    'R' => Ok(Answer::Value(Rights::Restricted)),
+                    'P' => Ok(Answer::Value(Rights::Preview)),
+                    'E' => Ok(Answer::Value(Rights::Editable)),
+                    '?' => Ok(Answer::NotKnown),
+                    '4' => no_at(3, 4),
+                    _ => no(1),
+                };
+                for fs_type in [fs_type, fs_type + 0x100, fs_type + 0x200, fs_type + 0x300] {
+                    let table = os2(&[(0, version), (8, fs_type), (98, 1)]);
+                    let case = format!("version {version}, level {level}, fsType {fs_type:#X}");
+                    let accepted = expected.map(|_| ());
+                    assert_eq!(os2::accept(level, &table), accepted, "{case}");
+                    assert_eq!(os2::rights(level, &table), expected, "{case}");
+                    let field = expected.map(|_| Answer::Value(i64::from(fs_type)));
+                    assert_eq!(os2::field(level, &table, 4), field, "{case}");
+                }
+            }
+        }
+    }
+}
+
+/// The font that document 02 names.
+#[test]
+fn ask_1_version_2_font() {
+    let table = os2(&[(0, 2), (8, 0x000C)]);
+    for level in LEVELS {
+        assert_eq!(os2::accept(level, &table), Ok(()));
+    }
+    for level in 2..=5 {
+        let editable = Ok(Answer::Value(Rights::Editable));
+        assert_eq!(os2::rights(level, &table), editable);
+    }
+    for level in 0..=1 {
+        assert_eq!(os2::rights(level, &table), Ok(Answer::NotKnown));
+    }
 }
 
 #[test]
@@ -810,7 +889,9 @@ fn writer_rules() {
     assert_eq!(with(0, &[(2, 1001), (3, 0)]), no_at(3, 1));
     assert_eq!(with(0, &[(3, 10)]), no_at(3, 2));
     assert_eq!(with(0, &[(4, 1)]), no_at(3, 3));
-    assert_eq!(with(0, &[(4, 6)]), no_at(3, 4));
+    assert_eq!(with(0, &[(4, 6)]), Ok(78));
+    assert_eq!(with(3, &[(4, 6)]), no_at(3, 4));
+    assert_eq!(with(2, &[(4, 14), (31, 0x80)]), no_at(3, 5));
     assert_eq!(with(3, &[(31, 0x80)]), no_at(3, 5));
     assert_eq!(with(4, &[(31, 0x80)]), Ok(96));
     assert_eq!(with(4, &[(31, 0x400)]), no_at(3, 5));
@@ -818,6 +899,37 @@ fn writer_rules() {
     assert_eq!(with(5, &[(46, 1), (47, 1)]), no_at(3, 7));
     // Rule 7 doesn't look at sizes that the version lacks.
     assert_eq!(with(4, &[(46, 1), (47, 1)]), Ok(96));
+}
+
+/// Document 02, Ask 1: each version with each setting of fsType bits 1 to 3,
+/// from 0 to 14; w is written, 4 is refusal 3 carrying rule 4.
+#[test]
+fn writer_rule_4() {
+    for (version, size, answers) in [
+        (0, 78, "wwwwwwww"),
+        (1, 86, "wwwwwwww"),
+        (2, 96, "wwwwwwww"),
+        (3, 96, "www4w444"),
+        (4, 96, "www4w444"),
+        (5, 100, "www4w444"),
+    ] {
+        for (fs_type, letter) in (0..16).step_by(2).zip(answers.chars()) {
+            for fs_type in [fs_type, fs_type + 0x100, fs_type + 0x200, fs_type + 0x300] {
+                let mut values = plain(version);
+                values[4] = fs_type;
+                let case = format!("version {version}, fsType {fs_type:#X}");
+                let (result, room) = write(&values, 101);
+                if letter == '4' {
+                    assert_eq!(result, no_at(3, 4), "{case}");
+                    continue;
+                }
+                assert_eq!(result, Ok(size), "{case}");
+                let table = os2(&[(0, version as u16), (8, fs_type as u16), (98, 1)]);
+                assert_eq!(room[..size], table, "{case}");
+                assert!(room[size..].iter().all(|&byte| byte == 0xA5), "{case}");
+            }
+        }
+    }
 }
 
 #[test]
@@ -901,4 +1013,32 @@ fn rewriting_order() {
     assert_eq!(os2::rewrite(&long, &mut room), Ok(78));
     assert_eq!(room[..78], os2(&[]));
     assert_eq!(room[78..], [9; 22]);
+}
+
+/// Document 02, Ask 1: all three bits in version 2 are read, written and read
+/// again; in version 3 they are refused.
+#[test]
+fn rewriting_all_three_rights_bits() {
+    let table = os2(&[(0, 2), (8, 0x000E)]);
+    let mut room = [0xA5; 101];
+    assert_eq!(os2::rewrite(&table, &mut room), Ok(96));
+    assert_eq!(room[..96], table);
+    assert_eq!(room[96..], [0xA5; 5]);
+    assert_eq!(room[..2], [0, 2]);
+    assert_eq!(room[8..10], [0, 0x0E]);
+    for level in 2..=5 {
+        let editable = Ok(Answer::Value(Rights::Editable));
+        assert_eq!(os2::rights(level, &room[..96]), editable);
+    }
+    for level in 0..=1 {
+        assert_eq!(os2::rights(level, &room[..96]), Ok(Answer::NotKnown));
+    }
+    let mut other = [0x5A; 101];
+    assert_eq!(os2::rewrite(&room[..96], &mut other), Ok(96));
+    assert_eq!(other[..96], table);
+
+    let table = os2(&[(0, 3), (8, 0x000E)]);
+    let mut room = [0xA5; 101];
+    assert_eq!(os2::rewrite(&table, &mut room), no_at(3, 4));
+    assert_eq!(room, [0xA5; 101]);
 }

@@ -103,3 +103,25 @@ fn wrong_calls() {
         assert!(!output.stderr.is_empty());
     }
 }
+
+/// The last lines of `writer_rows`: versions 2 and 3 with each setting of
+/// fsType bits 1 to 3, then version 2 with all three, there and back.
+#[test]
+fn writer_rows_on_rights_bits() {
+    let output = Command::new(env!("CARGO_BIN_EXE_writer_rows"))
+        .output()
+        .unwrap();
+    assert_eq!(output.status.code(), Some(0));
+    let text = String::from_utf8(output.stdout).unwrap();
+    let lines: Vec<&str> = text.lines().collect();
+    let (written, refused) = ("written 96, room 0 170", "refused 3 at 4, room 170 170");
+    let signs = "==============================================--";
+    let version_2 = [written; 8];
+    let version_3 = [
+        written, written, written, refused, written, refused, refused, refused,
+    ];
+    let back = [written, signs, "rewritten 96, room 0 170", signs];
+    let expected = [&version_2[..], &version_3, &back].concat();
+    assert_eq!(lines.len(), 60);
+    assert_eq!(lines[40..], expected);
+}

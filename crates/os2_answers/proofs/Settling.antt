@@ -12,17 +12,16 @@ use Rattle.outcomes.specs.Firsts.{when, _then_}
 use Rattle.outcomes.specs.Outcomes.{Refusal, Outcome, refused, answered, unless}
 use Rattle.outcomes.proofs.Tests.{fails}
 use Rattle.level.specs.Levels.{newest}
-use Rattle.os2_rules.specs.Rules.{RightsRule}
-use Rattle.os2_fields.specs.Fields.{raw, version, valuesOf}
+use Rattle.os2_fields.specs.Fields.{raw, version}
 use Rattle.os2_style.proofs.Settling.{rights-are, rights-once, sizes-are, sizes-once}
 use Rattle.os2_acceptance.specs.Acceptance.{judged}
 use Rattle.os2_acceptance.specs.Settled.{Accepted}
 use Rattle.os2_acceptance.proofs.Accepting.{judged-exactly, judged-short, judged-broken, judged-ways}
 use Rattle.os2_questions.specs.declared.Question.{Question}
 use Rattle.os2_questions.specs.declared.Question.the-variants.{Field, SelectionBit, UnicodeBit, CodePageBit, Rights, StylePosition, OpticalSizes}
-use Rattle.os2_questions.specs.Questions.{ownRefusal, since, onWhole}
+use Rattle.os2_questions.specs.Questions.{ownRefusal, since}
 use Rattle.os2_questions.specs.Cases.{above}
-use Rattle.os2_questions.proofs.Cases.{above-exactly, not-above, known-exactly}
+use Rattle.os2_questions.proofs.Cases.{above-exactly, not-above}
 use Rattle.os2_questions.proofs.Settling.{own, own-is, came, came-since, unknownTo, later-is, later-exactly}
 use Rattle.os2_answers.specs.Values.{Value, rights, sizes, Said}
 use Rattle.os2_answers.specs.Asking.{valueOf, given, beforeTable, ask}
@@ -43,16 +42,15 @@ says b Rights = rights-say (rights-are (raw b 4))
 says b StylePosition = style-says
 says b OpticalSizes = optical-says (sizes-are (raw b 46) (raw b 47))
 
--- rule 4 is what makes rights one
-says-once : (b : List ℕ) {q : Question} {v : Value} → (onWhole q ≡ true → RightsRule (version b) (raw b 4)) → Says b q v → v ≡ valueOf b q
-unfolding valueOf onWhole
-says-once b r field-says = refl
-says-once b r selection-says = refl
-says-once b r unicode-says = refl
-says-once b r code-page-says = refl
-says-once b r (rights-say {k} h) = ap rights (rights-once (raw b 4) (version b) k (r refl) h)
-says-once b r style-says = refl
-says-once b r (optical-says h) = ap sizes (sizes-once (raw b 46) (raw b 47) h)
+says-once : (b : List ℕ) {q : Question} {v : Value} → Says b q v → v ≡ valueOf b q
+unfolding valueOf
+says-once b field-says = refl
+says-once b selection-says = refl
+says-once b unicode-says = refl
+says-once b code-page-says = refl
+says-once b (rights-say h) = ap rights (rights-once (raw b 4) h)
+says-once b style-says = refl
+says-once b (optical-says h) = ap sizes (sizes-once (raw b 46) (raw b 47) h)
 
 -- ---- the outcome
 
@@ -72,11 +70,6 @@ module _ (L : ℕ) (b : List ℕ) (q : Question) where
   pub ask-accepted : L ≤ newest → ownRefusal q ≡ none → Accepted L b → ask L b q ≡ answered (given L b q)
   unfolding unless
   ask-accepted h e a = ask-judged h e ∙ rw (judged-exactly L b .1 a)
-
-  -- a question on the whole table that is known is one on a table whose rules hold
-  rule-4 : Accepted L b → unknownTo L b q ≡ false → onWhole q ≡ true → RightsRule (version b) (raw b 4)
-  unfolding valuesOf
-  rule-4 a e w = a .ruled (known-exactly (since q) (onWhole q) L (version b) .0 e .1 w) 4 .rule-4 refl
 
   -- what `ask` answers is settled
   settled : Settled L b q (ask L b q)
@@ -122,4 +115,4 @@ settled-is L b q a (is-value {p} {v} h c k n m s) =
     let i = came-since c in
     let e = fails _ (later-exactly L b q (i .0)) .1 n in
     ask-accepted L b q h (i .0) k
-    ∙ (ap answered (given-value L b q e (not-above (since q) (version b) .1 (rw (i .1) at m))) ∙ rw (says-once b (rule-4 L b q k e) s))
+    ∙ (ap answered (given-value L b q e (not-above (since q) (version b) .1 (rw (i .1) at m))) ∙ rw (says-once b s))

@@ -16,7 +16,7 @@ use borrow.Author.Tests.{le-ltb, ltb-true, ltb-false}
 use Rattle.outcomes.specs.Firsts.{when, _then_, firstOf}
 use Rattle.outcomes.specs.Outcomes.{Refusal, carrying}
 use Rattle.outcomes.proofs.Laws.{none-exactly, lowest-exactly}
-use Rattle.outcomes.proofs.Tests.{below, not-below, not-at-most, equal, or-false, and-false, holds, implies}
+use Rattle.outcomes.proofs.Tests.{below, not-below, at-most, not-at-most, equal, or-false, and-false, holds, implies}
 use Rattle.os2_rules.specs.Bits.{bit, bits}
 use Rattle.os2_rules.specs.Rules.{Clear, WeightRule, WidthRule, TypeRule, RightsRule, SelectionRule, RegularRule, SizesRule, Rule, Rules, FirstBroken}
 use Rattle.os2_rules.specs.Tests.{anySet, weightBroken, widthBroken, typeBroken, rightsBroken, selectionBroken, regularBroken, sizesBroken, tests, broken, verdictOf, kept}
@@ -95,7 +95,7 @@ type-exactly x =
 
 pub rights-exactly : (w x : ℕ) → (rightsBroken w x ≡ false) ↔ RightsRule w x
 unfolding rightsBroken
-rights-exactly w x = not-below 1 (bit 1 x + bit 2 x + bit 3 x)
+rights-exactly w x = Iff·trans (and-false _ _) (implies (at-most _ w) (not-below _ (bit 1 x + bit 2 x + bit 3 x)))
 
 pub selection-exactly : (w x : ℕ) → (selectionBroken w x ≡ false) ↔ SelectionRule w x
 unfolding selectionBroken

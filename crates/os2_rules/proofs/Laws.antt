@@ -2,12 +2,11 @@
 -- Assumes nothing.
 use Prim.Native.Nat.{ℕ, _+_, _/_, _%_, _^_, _<_}
 use mathlib.Core.Path.{_≡_, refl, sym}
-use mathlib.Core.Bool.{Bool, true, false, cond, not, _&&_, _||_}
+use mathlib.Core.Bool.{Bool, true, false, cond, not, _||_, and-false}
 use mathlib.Core.Option.{Option, none, some}
 use mathlib.Core.List.{[], _∷_}
 use native.Mathlib.Nat.{div-one}
 use native.Mathlib.Omega.{arith}
-use lib.Dec.{ltb}
 use lib.ListN.{getD}
 use borrow.Author.Needs.{needs}
 use borrow.Author.Tests.{lt-ltb, le-ltb, le-leb, lt-leb, eq-eqb, ne-eqb}
@@ -80,7 +79,7 @@ module _ (v : Values) where
 -- an fsType of 0 breaks neither rule 3 nor rule 4
 pub plain-type : (version : ℕ) → (typeBroken 0 || rightsBroken version 0) ≡ false
 unfolding typeBroken rightsBroken bit bits
-plain-type version = refl
+plain-type version = simp and-false
 
 -- an fsSelection below 128 does not break rule 5
 pub plain-selection : (version x : ℕ) → x < 128 → selectionBroken version x ≡ false
@@ -88,8 +87,4 @@ unfolding selectionBroken bits
 plain-selection version x h =
     let high : x / 2 ^ 10 % 2 ^ 6 ≡ 0 = omega arith in
     let middle : x / 2 ^ 7 % 2 ^ 3 ≡ 0 = omega arith in
-    rw (high, middle) (none (ltb version 4))
-  where
-    none : (a : Bool) → (a && false) ≡ false
-    none true = refl
-    none false = refl
+    simp (high, middle, and-false)

@@ -1,3 +1,4 @@
 pub mod Bits
 pub mod Rules
 pub mod Tests
+pub mod Examples

@@ -1,4 +1,4 @@
--- Document 01's value rules as propositions, in its words and order.
+-- Document 01's value rules as propositions, in its words and order; rule 4 as document 02 has it.
 use Prim.Native.Nat.{ℕ, _+_, _<_, _≤_}
 use mathlib.Core.Path.{_≡_}
 use Rattle.os2_rules.specs.Bits.{bit}
@@ -20,9 +20,9 @@ WidthRule width = (1 ≤ width) × (width ≤ 9)
 abbrev pub TypeRule : ℕ → Type 0
 TypeRule fstype = Clear 0 0 fstype × (Clear 4 7 fstype × Clear 10 15 fstype)
 
--- 4. "at most one of fsType bits 1, 2, 3 set", in every version
+-- 4. "at most one of fsType bits 1, 2, 3 set". Document 02, Ask 1: "Value rule 4 shall apply only from version 3."
 abbrev pub RightsRule : ℕ → ℕ → Type 0
-RightsRule version fstype = bit 1 fstype + bit 2 fstype + bit 3 fstype ≤ 1
+RightsRule version fstype = 3 ≤ version → bit 1 fstype + bit 2 fstype + bit 3 fstype ≤ 1
 
 -- 5. "fsSelection bits 10 to 15 clear, and bits 7 to 9 clear when w is below 4"
 abbrev pub SelectionRule : ℕ → ℕ → Type 0

@@ -26,7 +26,7 @@ unfoldable pub typeBroken : ℕ → Bool
 typeBroken fstype = anySet 0 1 fstype || (anySet 4 4 fstype || anySet 10 6 fstype)
 
 unfoldable pub rightsBroken : ℕ → ℕ → Bool
-rightsBroken version fstype = ltb 1 (bit 1 fstype + bit 2 fstype + bit 3 fstype)
+rightsBroken version fstype = leb 3 version && ltb 1 (bit 1 fstype + bit 2 fstype + bit 3 fstype)
 
 unfoldable pub selectionBroken : ℕ → ℕ → Bool
 selectionBroken version fsselection = anySet 10 6 fsselection || (ltb version 4 && anySet 7 3 fsselection)

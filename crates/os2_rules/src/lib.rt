@@ -1,5 +1,5 @@
 // The seven value rules of an 'OS/2' table, on the values that they look at.
-// Document 01, "The 'OS/2' fields", value rules 1 to 7. The reader and the writer share them.
+// Document 01, "The 'OS/2' fields", value rules 1 to 7; rule 4 by document 02, Ask 1. The reader and the writer share them.
 ghost use mathlib.Core.Path.{_≡_};
 ghost use mathlib.Core.Bool.{_||_};
 ghost use Rattle.os2_rules.specs.Tests.{weightBroken, widthBroken, typeBroken, rightsBroken, selectionBroken, regularBroken, sizesBroken, verdictOf, said, kept};
@@ -120,11 +120,11 @@ fn type_broken(fstype: u16) -> bool
     0 < fstype / 16 % 16 || 0 < fstype / 1024 % 64
 }
 
-// Rule 4. It takes the version as rules 5 and 7 do, and holds in every version.
+// Rule 4, from version 3 on.
 fn rights_broken(version: u16, fstype: u16) -> bool
     ensures { λ r. ⌜ r ≡ rightsBroken version fstype ⌝ }
 {
-    1 < fstype / 2 % 2 + fstype / 4 % 2 + fstype / 8 % 2
+    3 <= version && 1 < fstype / 2 % 2 + fstype / 4 % 2 + fstype / 8 % 2
 }
 
 // Rule 5.

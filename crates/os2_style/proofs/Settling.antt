@@ -1,7 +1,8 @@
--- Which rights and which optical sizes the definitions give is what document 01 settles, and nothing else is.
+-- Which rights and which optical sizes the definitions give is what documents 01 and 02 settle, and nothing else is.
 -- Assumes nothing.
-use Prim.Native.Nat.{ℕ, zero, suc}
+use Prim.Native.Nat.{ℕ, zero, suc, _≤_}
 use mathlib.Core.Path.{_≡_, refl}
+use mathlib.Core.Logic.{_↔_}
 use mathlib.Core.Bool.{Bool, true, false, cond}
 use native.Mathlib.Omega.{arith}
 use lib.Dec.{ltb, eqb}
@@ -10,41 +11,52 @@ use Rattle.os2_rules.specs.Bits.{bit}
 use Rattle.os2_rules.specs.Rules.{RightsRule}
 use Rattle.os2_rules.proofs.Exactly.{bit-small}
 use Rattle.os2_style.specs.Style.{Sizes, every, upwards, between, rightsOf, points, sizesOf}
-use Rattle.os2_style.specs.Settled.{RightsAre, none-set, one-set, SizesAre, all, from-lower, both}
+use Rattle.os2_style.specs.Settled.{RightsAre, editable, preview, restricted, installable, ByOneBit, none-set, one-set, SizesAre, all, from-lower, both}
 
 module _ (fstype : ℕ) where
-  -- there is an answer
+  set : (k : ℕ) → ltb 0 (bit k fstype) ≡ true → bit k fstype ≡ 1
+  set k e = omega (arith, ltb-true 0 (bit k fstype) e, bit-small k fstype)
+
+  clear : (k : ℕ) → ltb 0 (bit k fstype) ≡ false → bit k fstype ≡ 0
+  clear k e = omega (arith, ltb-false 0 (bit k fstype) e)
+
+  -- whatever the bits are, there is an answer ..
   pub rights-are : RightsAre fstype (rightsOf fstype)
   unfolding rightsOf
-  rights-are = three (ltb 0 (bit 3 fstype)) refl
+  rights-are = at (ltb 0 (bit 3 fstype)) refl (ltb 0 (bit 2 fstype)) refl (ltb 0 (bit 1 fstype)) refl
     where
-      set : (k : ℕ) → ltb 0 (bit k fstype) ≡ true → bit k fstype ≡ 1
-      set k e = omega (arith, ltb-true 0 (bit k fstype) e, bit-small k fstype)
+      at : (t : Bool) → ltb 0 (bit 3 fstype) ≡ t → (s : Bool) → ltb 0 (bit 2 fstype) ≡ s → (r : Bool) → ltb 0 (bit 1 fstype) ≡ r →
+          RightsAre fstype (rightsOf fstype)
+      at true c s b r a = simp c (editable (set 3 c))
+      at false c true b r a = simp (c, b) (preview (clear 3 c) (set 2 b))
+      at false c false b true a = simp (c, b, a) (restricted (clear 3 c) (clear 2 b) (set 1 a))
+      at false c false b false a = simp (c, b, a) (installable (clear 3 c) (clear 2 b) (clear 1 a))
 
-      clear : (k : ℕ) → ltb 0 (bit k fstype) ≡ false → bit k fstype ≡ 0
-      clear k e = omega (arith, ltb-false 0 (bit k fstype) e)
-
-      one : bit 3 fstype ≡ 0 → bit 2 fstype ≡ 0 → (t : Bool) → ltb 0 (bit 1 fstype) ≡ t → RightsAre fstype (cond t 1 0)
-      one z y true e = one-set {k = 1} (omega arith) (omega arith) (set 1 e)
-      one z y false e = none-set (clear 1 e) y z
-
-      two : bit 3 fstype ≡ 0 → (t : Bool) → ltb 0 (bit 2 fstype) ≡ t → RightsAre fstype (cond t 2 (cond (ltb 0 (bit 1 fstype)) 1 0))
-      two z true e = one-set {k = 2} (omega arith) (omega arith) (set 2 e)
-      two z false e = one z (clear 2 e) (ltb 0 (bit 1 fstype)) refl
-
-      three : (t : Bool) → ltb 0 (bit 3 fstype) ≡ t → RightsAre fstype (cond t 3 (cond (ltb 0 (bit 2 fstype)) 2 (cond (ltb 0 (bit 1 fstype)) 1 0)))
-      three true e = one-set {k = 3} (omega arith) (omega arith) (set 3 e)
-      three false e = two (clear 3 e) (ltb 0 (bit 2 fstype)) refl
-
-  -- while at most one bit is set, there is one answer
-  pub rights-once : (w k : ℕ) → RightsRule w fstype → RightsAre fstype k → k ≡ rightsOf fstype
+  -- .. and one alone
+  pub rights-once : {k : ℕ} → RightsAre fstype k → k ≡ rightsOf fstype
   unfolding rightsOf
-  rights-once w zero r (none-set a b c) = rw (a, b, c)
-  rights-once w zero r (one-set l m e) = absurd (omega arith)
-  rights-once w (suc zero) r (one-set l m e) = let y : bit 2 fstype ≡ 0 = omega arith in let z : bit 3 fstype ≡ 0 = omega arith in rw (e, y, z)
-  rights-once w (suc (suc zero)) r (one-set l m e) = let z : bit 3 fstype ≡ 0 = omega arith in rw (e, z)
-  rights-once w (suc (suc (suc zero))) r (one-set l m e) = rw e
-  rights-once w (suc (suc (suc (suc k)))) r (one-set l m e) = absurd (omega arith)
+  rights-once (editable c) = rw c
+  rights-once (preview c b) = rw (c, b)
+  rights-once (restricted c b a) = rw (c, b, a)
+  rights-once (installable c b a) = rw (c, b, a)
+
+  -- from version 3 on, where rule 4 holds, this is document 01's sentence
+  pub since-3 : (w k : ℕ) → 3 ≤ w → RightsRule w fstype → RightsAre fstype k ↔ ByOneBit fstype k
+  since-3 w k h r = (there, back k)
+    where
+      there : {j : ℕ} → RightsAre fstype j → ByOneBit fstype j
+      there (editable c) = one-set {k = 3} (omega arith) (omega arith) c
+      there (preview c b) = one-set {k = 2} (omega arith) (omega arith) b
+      there (restricted c b a) = one-set {k = 1} (omega arith) (omega arith) a
+      there (installable c b a) = none-set a b c
+
+      back : (j : ℕ) → ByOneBit fstype j → RightsAre fstype j
+      back zero (none-set a b c) = installable c b a
+      back zero (one-set l m e) = absurd (omega arith)
+      back (suc zero) (one-set l m e) = restricted (omega (arith, r h)) (omega (arith, r h)) e
+      back (suc (suc zero)) (one-set l m e) = preview (omega (arith, r h)) e
+      back (suc (suc (suc zero))) (one-set l m e) = editable e
+      back (suc (suc (suc (suc j)))) (one-set l m e) = absurd (omega arith)
 
 module _ (lower upper : ℕ) where
   pub sizes-are : SizesAre lower upper (sizesOf lower upper)

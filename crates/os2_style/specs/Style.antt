@@ -1,4 +1,4 @@
--- Rights, the style position and optical sizes, in document 01's words and numbers.
+-- Rights, the style position and optical sizes, in the words and numbers of documents 01 and 02.
 use Prim.Native.Nat.{ℕ, _-_}
 use mathlib.Core.Bool.{cond}
 use mathlib.Core.List.{[], _∷_}
@@ -19,7 +19,7 @@ rightsNumber Restricted = 1
 rightsNumber Preview = 2
 rightsNumber Editable = 3
 
--- the bit of fsType that rights go by, 0 where none of bits 1 to 3 is set
+-- "the least restrictive set bit holds": the highest of bits 1 to 3 that is set, 0 where none is
 unfoldable pub rightsOf : ℕ → ℕ
 rightsOf fstype = cond (ltb 0 (bit 3 fstype)) 3 (cond (ltb 0 (bit 2 fstype)) 2 (cond (ltb 0 (bit 1 fstype)) 1 0))
 

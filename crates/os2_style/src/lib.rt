@@ -1,10 +1,10 @@
 // Rights, the style position and optical sizes, from the numbers that are stored.
-// Document 01, "Questions on an accepted OS/2 table", the last three questions.
+// Document 01, "Questions on an accepted OS/2 table", the last three questions; rights by document 02, Ask 1.
 ghost use mathlib.Core.Path.{_≡_};
 ghost use Rattle.os2_rules.specs.Rules.{WidthRule};
 ghost use Rattle.os2_style.specs.Style.{rightsOf, rightsNumber, float, percentOf, points, sizesOf, saidSizes};
 
-// Document 01's rights, by the bit of fsType that is set among 1 to 3.
+// Document 01's rights, by the highest of fsType's bits 1 to 3 that is set, the least restrictive one.
 pub enum EmbeddingRights {
     // None is set.
     Installable,

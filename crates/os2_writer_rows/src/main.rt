@@ -1,4 +1,5 @@
-// Runs the writer: each version written, read back and rewritten, and each refusal of the writer and of rewriting.
+// Runs the writer: each version written, read back and rewritten; each refusal of the writer and of rewriting; and each setting of fsType's
+// bits 1 to 3 in versions 2 and 3.
 // A room is lent filled with 170. A row ends with the room's first byte and, of a room of 101 bytes, its last, which no table reaches.
 // The stored output is made by the second program, `writer_rows`.
 use libc::STDOUT_FILENO;
@@ -24,6 +25,9 @@ fn main() {
     rules_refused();
     rewritings_refused();
     rewriting_without_room();
+    rights(2);
+    rights(3);
+    round_trip(sample_with(2, 14));
 }
 
 // Numbers of a version that it accepts, some of them negative or the largest of their fields.
@@ -50,9 +54,13 @@ fn sample(version: i64) -> [i64; FIELD_COUNT] {
     numbers
 }
 
-// A version written, read back field by field, and rewritten into another room.
+// A version written, read back and rewritten.
 fn version(version: i64) {
-    let numbers = sample(version);
+    round_trip(sample(version));
+}
+
+// Numbers written, read back field by field, and rewritten into another room.
+fn round_trip(numbers: [i64; FIELD_COUNT]) {
     let mut room: [u8; 101] = [170; 101];
     say(os2_writer::write(numbers, &mut room));
     ends(room[0], room[100]);
@@ -157,6 +165,29 @@ fn rewriting_without_room() {
     let mut room: [u8; 77] = [170; 77];
     say_rewritten(os2_writer::rewrite(&table, &mut room));
     end(room[0]);
+}
+
+// Each setting of fsType's bits 1 to 3, which exclude each other only from version 3 on.
+fn rights(version: i64) {
+    rights_row(version, 0);
+    rights_row(version, 2);
+    rights_row(version, 4);
+    rights_row(version, 6);
+    rights_row(version, 8);
+    rights_row(version, 10);
+    rights_row(version, 12);
+    rights_row(version, 14);
+}
+
+fn rights_row(version: i64, fstype: i64) {
+    row(sample_with(version, fstype));
+}
+
+// The same numbers with this fsType.
+fn sample_with(version: i64, fstype: i64) -> [i64; FIELD_COUNT] {
+    let mut numbers = sample(version);
+    numbers[4] = fstype;
+    numbers
 }
 
 // A table rewritten into a room that is long enough for every version.

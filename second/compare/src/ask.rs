@@ -14,7 +14,7 @@ pub const LEVELS: [u32; 8] = [0, 1, 2, 3, 4, 5, 6, u32::MAX];
 /// Bytes before and after a lent room that nobody may touch.
 const MARGIN: usize = 24;
 
-/// A difference, or an answer that document 01 has no place for, in whole lines.
+/// A difference, or an answer that the papers have no place for, in whole lines.
 #[derive(Debug)]
 pub struct Difference(pub String);
 
@@ -62,7 +62,7 @@ impl Asker {
         if krate != second {
             return Err(differ(&question, function, second, "crate", krate));
         }
-        self.counted(&question, function, second)
+        self.counted(&question, function, second, version_and_fs_type(table))
     }
 
     fn counted(
@@ -70,8 +70,9 @@ impl Asker {
         question: &dyn Display,
         function: Function,
         words: Words,
+        version_and_fs_type: [i64; 2],
     ) -> Result<Words, Difference> {
-        match self.tally.count(function, words) {
+        match self.tally.count(function, words, version_and_fs_type) {
             Ok(()) => Ok(words),
             Err(fault) => Err(Difference(format!(
                 "{}: {fault}\n  all sides answer: {}\n",
@@ -103,6 +104,7 @@ impl Asker {
             &format_args!("write with {length} bytes of room"),
             Function::Write,
             words,
+            [numbers[0], numbers[4]],
         )
     }
 
@@ -128,6 +130,7 @@ impl Asker {
             &format_args!("rewrite with {length} bytes of room"),
             Function::Rewrite,
             words,
+            version_and_fs_type(table),
         )
     }
 
@@ -409,17 +412,26 @@ fn same_rooms(
     Ok(expected)
 }
 
-/// The keys of the records as far as the table's bytes go, accepted or not.
-fn stored_keys(table: &[u8]) -> Vec<[u32; 4]> {
-    let word = |at: usize| match table.get(at..at + 2) {
+/// The 16-bit number at a place, or 0 where the table's bytes don't go so far.
+fn word(table: &[u8], at: usize) -> u32 {
+    match table.get(at..at + 2) {
         Some(two) => u32::from(u16::from_be_bytes([two[0], two[1]])),
         None => 0,
-    };
-    let count = word(2) as usize;
+    }
+}
+
+/// The version and the fsType of an OS/2 table. Of a 'name' table they mean nothing, and nothing is made of them.
+fn version_and_fs_type(table: &[u8]) -> [i64; 2] {
+    [0, 8].map(|at| i64::from(word(table, at)))
+}
+
+/// The keys of the records as far as the table's bytes go, accepted or not.
+fn stored_keys(table: &[u8]) -> Vec<[u32; 4]> {
+    let count = word(table, 2) as usize;
     (0..count)
         .map(|record| 6 + 12 * record)
         .take_while(|at| at + 12 <= table.len())
-        .map(|at| [word(at), word(at + 2), word(at + 4), word(at + 6)])
+        .map(|at| [0, 2, 4, 6].map(|part| word(table, at + part)))
         .collect()
 }
 

@@ -24,9 +24,9 @@ use numbers::Numbers;
 use tally::Tally;
 
 const USAGE: &str = "usage: compare [OPTION]... [FOLDER]...
-Compares the archive and the Rust crate over it with the second program on document 01's rows, in sweeps over the places that
-the rules look at, on tables made at random, and on the fonts under the folders. Without folders: the fonts installed on the
-machine.
+Compares the archive and the Rust crate over it with the second program on the rows of document 01 and of document 02's Ask 1,
+in sweeps over the places that the rules look at, on tables made at random, and on the fonts under the folders. Without
+folders: the fonts installed on the machine.
 
   --rows, --sweeps, --random, --fonts
                   only these parts
@@ -214,12 +214,12 @@ fn document_rows(task: &Task) -> Result<Tally, Stop> {
     let rows = rows::rows();
     for row in &rows {
         caught(|| rows::ask(&mut asker, row)).map_err(|difference| {
-            let place = format!("document 01's row \"{}\"", row.words);
+            let place = format!("the papers' row \"{}\"", row.words);
             stopped(task, &row.made(), difference, &place)
         })?;
     }
     say!(
-        "document 01: {} rows, {} calls",
+        "documents 01 and 02: {} rows, {} calls",
         rows.len(),
         asker.tally.calls()
     );
@@ -273,7 +273,9 @@ fn at_random(task: &Task) -> Result<Tally, Stop> {
         )));
     }
     if missing.is_empty() {
-        say!("at random: every refusal, rule, field that does not fit and kind of answer was met");
+        say!(
+            "at random: every refusal, rule, field that does not fit, kind of answer and setting of the rights bits was met"
+        );
     } else {
         say!(
             "at random: too few tables to meet everything; {} things are missing",

@@ -1,6 +1,7 @@
 //! Makes tables at random: valid ones, ones with a fault at an edge, ones cut short.
 //!
-//! The makers know document 01's rules only to come near their edges. Whether a table is right is for the compared programs.
+//! The makers know the rules of document 01 and of document 02's Ask 1 only to come near their edges. Whether a table is right
+//! is for the compared programs.
 
 use second::os2::{size, FIELDS};
 
@@ -643,7 +644,13 @@ fn valid_values(n: &mut Numbers, version: i64) -> [i64; 48] {
         _ => 1 + n.below(1000) as i64,
     };
     values[WIDTH] = 1 + n.below(9) as i64;
-    values[FS_TYPE] = n.pick(&[0, 2, 4, 8]) | n.pick(&[0, 0x100, 0x200, 0x300]);
+    // Before version 3 the bits 1 to 3 may stand together.
+    let rights = if version < 3 {
+        n.pick(&[0, 2, 4, 6, 8, 10, 12, 14])
+    } else {
+        n.pick(&[0, 2, 4, 8])
+    };
+    values[FS_TYPE] = rights | n.pick(&[0, 0x100, 0x200, 0x300]);
     let bits = if version < 4 { 7 } else { 10 };
     let mut selection = n.below(1 << bits) as i64;
     if selection & 0x40 != 0 {
@@ -669,6 +676,7 @@ fn break_rule(n: &mut Numbers, values: &mut [i64; 48]) {
         0 => values[WEIGHT] = n.pick(&[0, 1001, 1, 1000, 65_535, 256 * 400]).min(65_535),
         1 => values[WIDTH] = n.pick(&[0, 10, 1, 9, 256, 257, 65_535]),
         2 => values[FS_TYPE] |= 1 << n.below(16),
+        // From version 3 on this breaks rule 4; before it, it breaks no rule.
         3 => values[FS_TYPE] = n.pick(&[6, 10, 12, 14]) | n.pick(&[0, 0x100, 0x200, 0x300]),
         4 => values[FS_SELECTION] |= 1 << n.below(16),
         5 => {

@@ -1,11 +1,12 @@
-//! Document 01's rows: "Examples to check against" and "Easy slips", each with the answer that stands there.
+//! The papers' rows: document 01's "Examples to check against" and "Easy slips", each with the answer that stands there, and
+//! rows of document 02's Ask 1, each with the answers that follow from its words.
 
 use crate::ask::{Amount, Asker, Difference};
 use crate::make::Made;
 use crate::numbers::Numbers;
 use crate::question::{shown, Question, Words};
 
-/// A row: its words, its table, and the answers that document 01 gives.
+/// A row: its words, its table, and the answers that the papers give.
 pub struct Row {
     pub words: &'static str,
     pub table: Vec<u8>,
@@ -25,14 +26,14 @@ impl Row {
     }
 }
 
-/// Asks everything of one row's table, after the answers that stand in document 01.
+/// Asks everything of one row's table, after the answers that the papers give.
 pub fn ask(asker: &mut Asker, row: &Row) -> Result<(), Difference> {
     for &(question, expected) in &row.answers {
         let words = asker.ask(&row.table, question)?;
         if words != expected {
             let function = question.function();
             return Err(Difference(format!(
-                "{question}: the sides agree, but document 01 says otherwise\n  document 01: {}\n  all sides:   {}\n",
+                "{question}: the sides agree, but the papers say otherwise\n  papers:    {}\n  all sides: {}\n",
                 shown(function, expected),
                 shown(function, words)
             )));
@@ -64,6 +65,10 @@ fn two(first: u64, second: u64) -> Words {
 fn value(value: u64) -> Words {
     two(1, value)
 }
+
+/// The words of two of the rights.
+const PREVIEW: u64 = 2;
+const EDITABLE: u64 = 3;
 
 const ABSENT: Words = [0, 0, 0, 2, 0, 0, 0];
 const NOT_KNOWN: Words = [0, 0, 0, 3, 0, 0, 0];
@@ -120,7 +125,7 @@ fn postscript(text: &str) -> Vec<u8> {
     )
 }
 
-/// The rows in the document's order.
+/// The rows of document 01 in its order, then those of document 02's Ask 1.
 pub fn rows() -> Vec<Row> {
     let mut rows = Vec::new();
     let mut row = |words: &'static str, table: Vec<u8>, answers: Vec<(Question, Words)>| {
@@ -305,6 +310,44 @@ pub fn rows() -> Vec<Row> {
             (Question::SelectionBit(3, 7), NOT_KNOWN),
             (Question::Rights(3), NOT_KNOWN),
         ],
+    );
+
+    // Ask 1: "bits 1 to 3 exclude each other only since version 3; before it, the least restrictive set bit holds."
+    for (words, fs_type, rights) in [
+        (
+            "Ask 1: version 2, fsType 0x000C: accepted, editable",
+            0x000C,
+            EDITABLE,
+        ),
+        (
+            "Ask 1: version 2, fsType 0x0006: accepted, preview",
+            0x0006,
+            PREVIEW,
+        ),
+        (
+            "Ask 1: version 2, fsType 0x000A: accepted, editable",
+            0x000A,
+            EDITABLE,
+        ),
+        (
+            "Ask 1: version 2, fsType 0x000E: accepted, editable",
+            0x000E,
+            EDITABLE,
+        ),
+    ] {
+        let mut answers: Vec<_> = (0..=5).map(|level| (check(level), ACCEPTED)).collect();
+        answers.extend((0..=1).map(|level| (Question::Rights(level), NOT_KNOWN)));
+        answers.extend((2..=5).map(|level| (Question::Rights(level), value(rights))));
+        row(words, os2(2, 96, &[(FS_TYPE, fs_type)]), answers);
+    }
+    let mut answers: Vec<_> = (0..=2).map(|level| (check(level), ACCEPTED)).collect();
+    answers.extend((0..=2).map(|level| (Question::Rights(level), NOT_KNOWN)));
+    answers.extend((3..=5).map(|level| (check(level), refused_at(3, 4))));
+    answers.extend((3..=5).map(|level| (Question::Rights(level), refused_at(3, 4))));
+    row(
+        "Ask 1: version 3, fsType 0x000C: 3 (rule 4) at levels 3 to 5, accepted at levels 0 to 2 with rights not known",
+        os2(3, 96, &[(FS_TYPE, 0x000C)]),
+        answers,
     );
     rows
 }

@@ -25,7 +25,7 @@ fn float(value: f32) -> u64 {
     u64::from(value.to_bits())
 }
 
-/// What document 01 asks for, by the second program.
+/// What the second program answers.
 pub mod by_second {
     use super::*;
     use second::os2::{Answer, OpticalSizes, Rights, StylePosition};

@@ -1,5 +1,5 @@
-//! Sweeps: every 16-bit number in the places of a small table that the rules look at, every cut of some tables, and every
-//! field of the writer at the edges of its range.
+//! Sweeps: every 16-bit number in the places of a small table that the rules look at, every cut of some tables, every field of
+//! the writer at the edges of its range, and every setting of the writer's fsType.
 
 use second::os2::{size, FIELDS};
 
@@ -169,11 +169,14 @@ fn os2_of(version: u16) -> Vec<u8> {
 }
 
 fn os2(asker: &mut Asker) -> Result<(), Found> {
-    for version in [0, 3, 4, 5, 6] {
+    let rights: Vec<Question> = (0..=5)
+        .flat_map(|level| [Question::Os2Check(level), Question::Rights(level)])
+        .collect();
+    for version in 0..=6 {
         let concerned: [(usize, &[Question]); 4] = [
             (4, &[Question::Os2Check(5), Question::StylePosition(5)]),
             (6, &[Question::Os2Check(5), Question::StylePosition(5)]),
-            (8, &[Question::Os2Check(5), Question::Rights(5)]),
+            (8, &rights),
             (
                 62,
                 &[
@@ -271,7 +274,20 @@ fn cuts(asker: &mut Asker) -> Result<(), Found> {
     Ok(())
 }
 
-/// Every version, field and number at the edges of the field, with rooms about the version's size.
+/// The numbers of a table of zero bytes but weight 400, width 5 and sizes 0 and 65,535.
+fn values_of(version: i64) -> [i64; 48] {
+    let mut values = [0; 48];
+    (values[0], values[2], values[3], values[47]) = (version, 400, 5, 65_535);
+    values
+}
+
+/// Rooms about a version's size.
+fn rooms(needed: usize) -> [usize; 4] {
+    [needed + 7, needed, needed - 1, 0]
+}
+
+/// Every version, field and number at the edges of the field; then every version and setting of fsType bits 0 to 3, 8 and 9,
+/// and what was written is rewritten. All with rooms about the version's size.
 fn writer(asker: &mut Asker) -> Result<(), Found> {
     for version in -1..=6 {
         for field in 0..48 {
@@ -286,14 +302,33 @@ fn writer(asker: &mut Asker) -> Result<(), Found> {
                 i64::MAX,
             ];
             for edge in edges {
-                let mut values = [0; 48];
-                (values[0], values[2], values[3], values[47]) = (version, 400, 5, 65_535);
+                let mut values = values_of(version);
                 values[field] = edge;
-                let needed = size(version.clamp(0, 5) as u32);
-                for room in [needed + 7, needed, needed - 1, 0] {
+                for room in rooms(size(version.clamp(0, 5) as u32)) {
                     asker.write(&values, room, 0xA5).map_err(|difference| {
                         let made = Made::Numbers(Box::new(values));
                         found(difference, &made, "every field of the writer at its edges")
+                    })?;
+                }
+            }
+        }
+    }
+    let sweep = "every setting of the writer's fsType";
+    for version in 0..=5 {
+        for fs_type in (0..0x400).filter(|fs_type| fs_type & 0xF0 == 0) {
+            let mut values = values_of(version);
+            values[4] = fs_type;
+            let needed = size(version as u32);
+            for room in rooms(needed) {
+                asker.write(&values, room, 0xA5).map_err(|difference| {
+                    found(difference, &Made::Numbers(Box::new(values)), sweep)
+                })?;
+            }
+            let mut table = vec![0; needed];
+            if second::os2::write(&values, &mut table).is_ok() {
+                for room in rooms(needed) {
+                    asker.rewrite(&table, room, 0xA5).map_err(|difference| {
+                        found(difference, &Made::Os2(table.clone()), sweep)
                     })?;
                 }
             }

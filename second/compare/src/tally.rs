@@ -8,6 +8,8 @@ use crate::question::{Function, Words, FUNCTIONS};
 const NUMBERS: usize = 26;
 /// The bits of the nine width percents.
 const WIDTHS: [f32; 9] = [50.0, 62.5, 75.0, 87.5, 100.0, 112.5, 125.0, 150.0, 200.0];
+/// The settings of fsType bits 1 to 3 with two or three of them.
+const TOGETHER: [i64; 4] = [6, 10, 12, 14];
 
 /// The counts of one function.
 #[derive(Clone, Copy, Default)]
@@ -19,6 +21,10 @@ struct Row {
     kinds: [u64; 4],
     /// Bits that are clear and set.
     bits: [u64; 2],
+    /// By version, where refusal 3 carries rule 4.
+    rule_4: [u64; 6],
+    /// By version, where two or three of fsType bits 1 to 3 are set: values for the rights, and tables written.
+    together: [u64; 6],
 }
 
 /// The counts of a run or of a part of it.
@@ -30,6 +36,8 @@ pub struct Tally {
     /// By the field that refusal 8 carries.
     misfits: Vec<u64>,
     rights: [u64; 4],
+    /// Values for the rights, by the number that fsType bits 1 to 3 are.
+    settings: [u64; 16],
     /// By the optical sizes' word: 1 every, 2 upwards, 3 between.
     sizes: [u64; 4],
     widths: [u64; 9],
@@ -50,8 +58,14 @@ impl Tally {
         }
     }
 
-    /// Counts one call that all sides answered with these words. It fails for words that document 01 has no place for.
-    pub fn count(&mut self, function: Function, words: Words) -> Result<(), String> {
+    /// Counts one call that all sides answered with these words, on an OS/2 table or on 48 numbers with this version and this
+    /// fsType. It fails for words that the papers have no place for.
+    pub fn count(
+        &mut self,
+        function: Function,
+        words: Words,
+        [version, fs_type]: [i64; 2],
+    ) -> Result<(), String> {
         let row = &mut self.rows[function as usize];
         row.calls += 1;
         let number = words[0];
@@ -65,6 +79,26 @@ impl Tally {
             3 => self.rules[words[2] as usize] += 1,
             8 => self.misfits[words[2] as usize] += 1,
             _ => {}
+        }
+        if number == 3 && words[2] == 4 {
+            if !(3..=5).contains(&version) {
+                return Err(format!("the papers know no rule 4 for version {version}"));
+            }
+            row.rule_4[version as usize] += 1;
+        }
+        let setting = fs_type & 0x000E;
+        let answered = match function {
+            Function::Rights => number == 0 && words[3] == 1,
+            Function::Write | Function::Rewrite => number == 0,
+            _ => false,
+        };
+        if answered && TOGETHER.contains(&setting) {
+            if !(0..=2).contains(&version) {
+                return Err(format!(
+                    "the papers know no answer for version {version} with fsType {fs_type}"
+                ));
+            }
+            row.together[version as usize] += 1;
         }
         if number != 0 || function.kinds().is_empty() {
             return Ok(());
@@ -83,7 +117,10 @@ impl Tally {
             Function::SelectionBit | Function::UnicodeBit | Function::CodePageBit => {
                 row.bits[words[4] as usize] += 1;
             }
-            Function::Rights => self.rights[words[4] as usize] += 1,
+            Function::Rights => {
+                self.rights[words[4] as usize] += 1;
+                self.settings[setting as usize] += 1;
+            }
             Function::OpticalSizes => self.sizes[words[4] as usize] += 1,
             Function::StylePosition => {
                 let place = WIDTHS
@@ -111,10 +148,13 @@ impl Tally {
             each(&mut our.numbers, &their.numbers);
             each(&mut our.kinds, &their.kinds);
             each(&mut our.bits, &their.bits);
+            each(&mut our.rule_4, &their.rule_4);
+            each(&mut our.together, &their.together);
         }
         each(&mut self.rules, &other.rules);
         each(&mut self.misfits, &other.misfits);
         each(&mut self.rights, &other.rights);
+        each(&mut self.settings, &other.settings);
         each(&mut self.sizes, &other.sizes);
         each(&mut self.widths, &other.widths);
         each(&mut self.names, &other.names);
@@ -176,12 +216,32 @@ impl Tally {
         };
         let _ = writeln!(lines, "  refusals by number: {}", list(&totals, 1));
         let _ = writeln!(lines, "  rules carried by 3: {}", list(&self.rules, 1));
+        let mut rule_4 = [0; 6];
+        for row in &self.rows {
+            for (version, count) in row.rule_4.iter().enumerate() {
+                rule_4[version] += count;
+            }
+        }
+        let _ = writeln!(lines, "  rule 4 by version: {}", list(&rule_4, 0));
         let _ = writeln!(lines, "  fields carried by 8: {}", list(&self.misfits, 0));
         let _ = writeln!(
             lines,
             "  rights: installable {}, restricted {}, preview {}, editable {}",
             self.rights[0], self.rights[1], self.rights[2], self.rights[3]
         );
+        let _ = writeln!(
+            lines,
+            "  rights by fsType bits 1 to 3: {}",
+            list(&self.settings, 0)
+        );
+        for function in [Function::Rights, Function::Write, Function::Rewrite] {
+            let _ = writeln!(
+                lines,
+                "  {} with two or three of these bits, by version: {}",
+                function.title(),
+                list(&self.rows[function as usize].together, 0)
+            );
+        }
         let _ = writeln!(
             lines,
             "  optical sizes: every {}, upwards {}, between {}",
@@ -225,6 +285,25 @@ impl Tally {
                 need(row.bits[0], format!("{title}: a clear bit"));
                 need(row.bits[1], format!("{title}: a set bit"));
             }
+            if function.refusals().contains(&3) {
+                for version in 3..6 {
+                    need(
+                        row.rule_4[version],
+                        format!("{title}: rule 4 broken in version {version}"),
+                    );
+                }
+            }
+            if matches!(
+                function,
+                Function::Rights | Function::Write | Function::Rewrite
+            ) {
+                for version in 0..3 {
+                    need(
+                        row.together[version],
+                        format!("{title}: two or three of fsType bits 1 to 3 in version {version}"),
+                    );
+                }
+            }
         }
         for rule in 1..8 {
             need(self.rules[rule], format!("rule {rule} broken"));
@@ -238,6 +317,12 @@ impl Tally {
             .enumerate()
         {
             need(self.rights[rights], format!("rights {word}"));
+        }
+        for setting in TOGETHER {
+            need(
+                self.settings[setting as usize],
+                format!("rights with fsType {setting}"),
+            );
         }
         for (sizes, word) in [(1, "every"), (2, "upwards"), (3, "between")] {
             need(self.sizes[sizes], format!("optical sizes {word}"));

@@ -1,5 +1,6 @@
 //! Prints the rows of the program `os2_writer_rows`, of which this is the stored output: each version
-//! written, read back and rewritten, and each refusal of the writer and of rewriting.
+//! written, read back and rewritten; each refusal of the writer and of rewriting; each setting of fsType
+//! bits 1 to 3 written in versions 2 and 3, and the setting of all three read back and rewritten.
 //!
 //! A room is lent filled with 170. A row ends with the room's first byte and, of a room of 101 bytes,
 //! its last. A line of signs has one for each field, read at level 5: `=` for the number that was
@@ -14,11 +15,7 @@ type Numbers = [i64; 48];
 
 fn main() {
     for version in 0..=5 {
-        let numbers = sample(version, &[]);
-        let room = written(&numbers, 101);
-        println!("{}", signs(&numbers, &room));
-        let other = rewritten(&room, 101);
-        println!("{}", signs(&numbers, &other));
+        there_and_back(&sample(version, &[]));
     }
     written(&sample(6, &[]), 101);
     written(&sample(-1, &[]), 101);
@@ -36,6 +33,20 @@ fn main() {
     rewritten(&[0; 78], 101);
     rewritten(&with(100, &[(1, 6)]), 101);
     rewritten(&with(78, &[(5, 1), (7, 1)]), 77);
+    for version in [2, 3] {
+        for fs_type in [0, 2, 4, 6, 8, 10, 12, 14] {
+            written(&sample(version, &[(4, fs_type)]), 101);
+        }
+    }
+    there_and_back(&sample(2, &[(4, 14)]));
+}
+
+/// Written, with its line of signs, and rewritten, with its line of signs.
+fn there_and_back(numbers: &Numbers) {
+    let room = written(numbers, 101);
+    println!("{}", signs(numbers, &room));
+    let other = rewritten(&room, 101);
+    println!("{}", signs(numbers, &other));
 }
 
 /// Numbers of a version, some of them negative or the largest of their fields, and others in some fields.

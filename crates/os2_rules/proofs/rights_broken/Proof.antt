@@ -11,5 +11,9 @@ returns : tie.Need-returns
 unfolding rightsBroken bit
 returns c = search decided
 
+returns-2 : tie.Need-returns-2
+unfolding rightsBroken bit
+returns-2 c = search decided
+
 pub rights-broken-spec : {M : Type 1} → statement M
-rights-broken-spec = tie.close (tie.spec (λ c. search needs) (λ c. search needs) returns)
+rights-broken-spec = tie.close (tie.spec (λ c. search needs) (λ c. search needs) returns returns-2)
