@@ -28,9 +28,12 @@ pub bit-small : (k x : ℕ) → bit k x < 2
 unfolding bit
 bit-small k x = mod-lt (x / 2 ^ k) (omega arith)
 
-bit-one : (k x : ℕ) → bits k 1 x ≡ bit k x
-unfolding bit bits
-bit-one k x = refl
+-- a bit is set, or clear
+pub bit-set : (k x : ℕ) → (ltb 0 (bit k x) ≡ true) ↔ (bit k x ≡ 1)
+bit-set k x = (λ e. omega (arith, ltb-true 0 (bit k x) e, bit-small k x), λ e. rw e)
+
+pub bit-clear : (k x : ℕ) → (ltb 0 (bit k x) ≡ false) ↔ (bit k x ≡ 0)
+bit-clear k x = (λ e. omega (arith, ltb-false 0 (bit k x) e), λ e. rw e)
 
 -- one bit more
 bits-more : (k n x : ℕ) → bits k (suc n) x ≡ bit (k + n) x * 2 ^ n + bits k n x
@@ -104,22 +107,11 @@ selection-exactly w x =
     (Iff·and (clear 10 6 15 x refl)
     (Iff·trans (and-false (ltb w 4) (anySet 7 3 x)) (implies (below w 4) (clear 7 3 9 x refl))))
 
--- a bit is set, or clear
-set-is : (k x : ℕ) → (anySet k 1 x ≡ true) ↔ (bit k x ≡ 1)
-set-is k x =
-    let b : bits k 1 x ≡ bit k x = bit-one k x in
-    (λ e. omega (arith, ltb-true 0 (bits k 1 x) e, bit-small k x), λ e. rw (b, e))
-
-clear-is : (k x : ℕ) → (anySet k 1 x ≡ false) ↔ (bit k x ≡ 0)
-clear-is k x =
-    let b : bits k 1 x ≡ bit k x = bit-one k x in
-    (λ e. omega (arith, ltb-false 0 (bits k 1 x) e), λ e. rw (b, e))
-
 pub regular-exactly : (x : ℕ) → (regularBroken x ≡ false) ↔ RegularRule x
-unfolding regularBroken
+unfolding regularBroken bit bits
 regular-exactly x =
     Iff·trans (and-false (anySet 6 1 x) (anySet 0 1 x || anySet 5 1 x))
-    (implies (set-is 6 x) (Iff·trans (or-false (anySet 0 1 x) (anySet 5 1 x)) (Iff·and (clear-is 0 x) (clear-is 5 x))))
+    (implies (bit-set 6 x) (Iff·trans (or-false (anySet 0 1 x) (anySet 5 1 x)) (Iff·and (bit-clear 0 x) (bit-clear 5 x))))
 
 pub sizes-exactly : (w lo up : ℕ) → (sizesBroken w lo up ≡ false) ↔ SizesRule w lo up
 unfolding sizesBroken

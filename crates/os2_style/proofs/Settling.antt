@@ -6,19 +6,19 @@ use mathlib.Core.Logic.{_↔_}
 use mathlib.Core.Bool.{Bool, true, false, cond}
 use native.Mathlib.Omega.{arith}
 use lib.Dec.{ltb, eqb}
-use borrow.Author.Tests.{eq-eqb, ne-eqb, ltb-true, ltb-false, eqb-true, eqb-false}
+use borrow.Author.Tests.{eq-eqb, ne-eqb, eqb-true, eqb-false}
 use Rattle.os2_rules.specs.Bits.{bit}
 use Rattle.os2_rules.specs.Rules.{RightsRule}
-use Rattle.os2_rules.proofs.Exactly.{bit-small}
+use Rattle.os2_rules.proofs.Exactly.{bit-set, bit-clear}
 use Rattle.os2_style.specs.Style.{Sizes, every, upwards, between, rightsOf, points, sizesOf}
 use Rattle.os2_style.specs.Settled.{RightsAre, editable, preview, restricted, installable, ByOneBit, none-set, one-set, SizesAre, all, from-lower, both}
 
 module _ (fstype : ℕ) where
-  set : (k : ℕ) → ltb 0 (bit k fstype) ≡ true → bit k fstype ≡ 1
-  set k e = omega (arith, ltb-true 0 (bit k fstype) e, bit-small k fstype)
+  abbrev set : (k : ℕ) → ltb 0 (bit k fstype) ≡ true → bit k fstype ≡ 1
+  set k = bit-set k fstype .0
 
-  clear : (k : ℕ) → ltb 0 (bit k fstype) ≡ false → bit k fstype ≡ 0
-  clear k e = omega (arith, ltb-false 0 (bit k fstype) e)
+  abbrev clear : (k : ℕ) → ltb 0 (bit k fstype) ≡ false → bit k fstype ≡ 0
+  clear k = bit-clear k fstype .0
 
   -- whatever the bits are, there is an answer ..
   pub rights-are : RightsAre fstype (rightsOf fstype)

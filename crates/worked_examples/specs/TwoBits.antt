@@ -2,7 +2,7 @@
 -- it, the least restrictive set bit holds."
 use Prim.Native.Nat.{ℕ}
 use mathlib.Core.Path.{_≡_}
-use mathlib.Core.Option.{none, some}
+use mathlib.Core.Option.{some}
 use mathlib.Core.List.{List, [], _∷_, _++_, map}
 use lib.ListN.{replicate}
 use Rattle.outcomes.specs.Outcomes.{Outcome, refused, answered, accepted}
