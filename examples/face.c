@@ -1,7 +1,7 @@
 /*
  * Prints what a font's 'name' and 'OS/2' tables say of its face.
  *
- *     face                     the two tables that stand in this file; also a refusal, writing and rewriting
+ *     face                     the two tables that stand in this file; also refusals, what changed, writing and rewriting
  *     face name FILE           the 'name' table in FILE
  *     face os2 FILE [LEVEL]    the 'OS/2' table in FILE; the level is 5 where none is given
  *
@@ -163,6 +163,54 @@ static void print_refusals(void)
     refused(gv_os2_field(os2_table, sizeof os2_table, 5, GV_FIELDS).refusal);
 }
 
+static void print_answer(int64_t kind, int64_t value)
+{
+    if (kind == GV_VALUE)
+        printf(" %lld", (long long)value);
+    else
+        printf(" absent");
+}
+
+/* What changed between two deliveries of each table. */
+static void print_changes(void)
+{
+    static const char *const which_words[] = {"", "only left", "only right", "other bytes"};
+    uint8_t lighter[sizeof os2_table];
+    uint8_t renamed[sizeof name_table];
+    gv_os2_difference fields[GV_FIELDS];
+    gv_name_difference keys[6];
+    gv_compared done;
+    size_t i;
+
+    /* Version 4 has no optical sizes, and here also another weight. */
+    memcpy(lighter, os2_table, sizeof lighter);
+    lighter[1] = 4;
+    lighter[4] = 1;
+    lighter[5] = 144;
+    done = gv_os2_compare(os2_table, sizeof os2_table, lighter, sizeof lighter, 5, &fields[0].field, 5 * GV_FIELDS);
+    for (i = 0; i < done.rows; i++) {
+        printf("  field %d:", (int)fields[i].field);
+        print_answer(fields[i].left_kind, fields[i].left_value);
+        printf(" to");
+        print_answer(fields[i].right_kind, fields[i].right_value);
+        printf("\n");
+    }
+    printf("  in room for 3 rows: ");
+    refused(gv_os2_compare(os2_table, sizeof os2_table, lighter, sizeof lighter, 5, &fields[0].field, 5 * 3).refusal);
+    done = gv_os2_compare(os2_table, 99, lighter, sizeof lighter, 5, &fields[0].field, 5 * GV_FIELDS);
+    printf("  with 99 bytes on the left: %s ", done.side == GV_LEFT ? "left" : "right");
+    refused(done.refusal);
+
+    /* The first record gets another key, and the version text ends otherwise. */
+    memcpy(renamed, name_table, sizeof renamed);
+    renamed[13] = 4;
+    renamed[sizeof renamed - 1] = '8';
+    done = gv_name_compare(name_table, sizeof name_table, renamed, sizeof renamed, &keys[0].platform, 5 * 6);
+    for (i = 0; i < done.rows; i++)
+        printf("  key %u %u %u %u: %s\n", keys[i].platform, keys[i].encoding, keys[i].language, keys[i].name,
+               which_words[keys[i].which]);
+}
+
 static void print_written(const char *title, gv_written written)
 {
     printf("  %s: ", title);
@@ -238,6 +286,8 @@ int main(int count, char **words)
         print_os2(os2_table, sizeof os2_table, 3);
         printf("refusals\n");
         print_refusals();
+        printf("changes\n");
+        print_changes();
         printf("writing\n");
         print_writing();
     } else if (count == 3 && strcmp(words[1], "name") == 0) {

@@ -1,5 +1,6 @@
 /*
- * Gyalvindor: a proved reader of a font's 'name' and 'OS/2' tables, and a proved writer of 'OS/2' tables.
+ * Gyalvindor: a proved reader of a font's 'name' and 'OS/2' tables, a proved comparison of two of them, and a proved writer of
+ * 'OS/2' tables.
  *
  * Building. `rt staticlib gyalvindor`, run in the repository's root, makes the archive. Then:
  *
@@ -10,7 +11,7 @@
  *
  * Tables. A table is lent as a pointer to its first byte and its length in bytes. It is the bytes of one table, not of a
  * whole font; finding tables in a font file is left to the caller. Pointers must not be NULL, also where the length is 0.
- * Only gv_os2_write and gv_os2_rewrite write to memory.
+ * Only gv_os2_write, gv_os2_rewrite, gv_os2_compare and gv_name_compare write to memory.
  *
  * Answers. Every function gives a struct by value. Look at its refusal first: where refusal.number is not 0 there is no
  * answer, and the number says why. Every function checks the whole table before it answers, so gv_name_check and gv_os2_check
@@ -65,6 +66,7 @@ extern "C" {
  *    23     a PostScript string is ill-formed                               -
  *    24     the two PostScript strings differ                               -
  *    25     no version number in the string                                 -
+ *    29     two tables have more differences than there are rows for        -
  *
  * The rules for OS/2 values that refusal 3 carries:
  *
@@ -255,6 +257,64 @@ gv_written gv_os2_write(const int64_t numbers[GV_FIELDS], uint8_t *room, size_t 
 /* Reads a table at level 5 and writes its fields: the same bytes, up to its version's size. Table and room must not overlap.
    Refusals 2, 3, 4, 5, in this order. */
 gv_written gv_os2_rewrite(const uint8_t *table, size_t table_length, uint8_t *room, size_t length);
+
+/* ---- two tables compared
+
+   What differs between two tables is listed in lent rows of five numbers, one row for each difference, from the first row on.
+   The room is lent as a pointer to the first number of the first row and the count of numbers: five for each row. Where that
+   count is no multiple of five, the numbers behind the last whole row are not touched. There may be no row at all. Rows behind
+   those that are written, and all rows where the call is refused, hold what they held. Tables and room must not overlap.
+
+       gv_os2_difference rows[GV_FIELDS];
+       gv_compared done = gv_os2_compare(left, left_length, right, right_length, 5, &rows[0].field, 5 * GV_FIELDS);
+       for (size_t i = 0; i < done.rows; i++)
+           printf("field %d differs\n", (int)rows[i].field); */
+
+/* Which of the two tables a refusal is about. */
+#define GV_NO_SIDE 0u /* the call is not refused, or by 1 or 29 */
+#define GV_LEFT 1u
+#define GV_RIGHT 2u
+
+/* How many rows were written. Where the call is refused it is 0. */
+typedef struct gv_compared {
+    gv_refusal refusal;
+    uint32_t side; /* GV_NO_SIDE, GV_LEFT or GV_RIGHT */
+    size_t rows;
+} gv_compared;
+
+/* A row for two OS/2 tables: a field, and what gv_os2_field answers for it on either side. A kind is GV_VALUE or GV_ABSENT; a
+   field that came in after the level is GV_NOT_KNOWN on both sides, and so in no row. A value is 0 where its kind is GV_ABSENT. */
+typedef struct gv_os2_difference {
+    int64_t field; /* 0 to 47 */
+    int64_t left_kind;
+    int64_t left_value;
+    int64_t right_kind;
+    int64_t right_value;
+} gv_os2_difference;
+
+/* What a key of two 'name' tables is. A key in both with the same string bytes is in no row, wherever the strings lie. */
+#define GV_ONLY_LEFT 1u
+#define GV_ONLY_RIGHT 2u
+#define GV_OTHER_BYTES 3u /* in both, with other string bytes */
+
+/* A row for two 'name' tables: a record's four numbers, and what the key is. */
+typedef struct gv_name_difference {
+    uint16_t platform;
+    uint16_t encoding;
+    uint16_t language;
+    uint16_t name;
+    uint16_t which; /* GV_ONLY_LEFT, GV_ONLY_RIGHT or GV_OTHER_BYTES */
+} gv_name_difference;
+
+/* The fields in which two OS/2 tables differ at a level, in the order of their numbers: those with different answers. Refusals
+   1, with no side; then 2, 3 of the left table; then 2, 3 of the right one; then 29, with no side. 48 rows are always enough. */
+gv_compared gv_os2_compare(const uint8_t *left, size_t left_length, const uint8_t *right, size_t right_length, uint32_t level,
+                           int64_t *room, size_t numbers);
+
+/* The keys in which two 'name' tables differ, in the order of keys, each once. Tags are not compared. Refusals as gv_name_check
+   of the left table; then of the right one; then 29, with no side. As many rows as both tables have records are always enough. */
+gv_compared gv_name_compare(const uint8_t *left, size_t left_length, const uint8_t *right, size_t right_length, uint16_t *room,
+                            size_t numbers);
 
 #ifdef __cplusplus
 }

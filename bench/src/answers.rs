@@ -35,6 +35,9 @@ pub enum Optical {
 /// The size written.
 pub type Written = Result<usize>;
 
+/// How many rows were written, or the side of a refusal, 0 for none, 1 left, 2 right, and the refusal.
+pub type Compared = std::result::Result<usize, (u32, Refusal)>;
+
 pub fn refuse<T>(number: u32) -> Result<T> {
     Err(Refusal { number, carried: 0 })
 }

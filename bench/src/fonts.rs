@@ -76,3 +76,20 @@ pub fn many_records(count: u16) -> Vec<u8> {
     t.push(b'x');
     t
 }
+
+/// An accepted 'name' table of 5,460 records, each with a string of 12 bytes of its own, and the same with one byte of the last
+/// string but one changed.
+pub fn one_byte_changed() -> [Vec<u8>; 2] {
+    let mut t = many_records(5460);
+    t.pop();
+    for i in 0..5460 {
+        let at = 6 + 12 * i + 8;
+        t[at..at + 2].copy_from_slice(&12u16.to_be_bytes());
+        t[at + 2..at + 4].copy_from_slice(&(12 * i as u16).to_be_bytes());
+        t.extend(format!("string {i:05}").bytes());
+    }
+    let mut changed = t.clone();
+    let last = changed.len() - 13;
+    changed[last] ^= 1;
+    [t, changed]
+}

@@ -111,7 +111,7 @@ fn line(what: &str, calls: usize, [ours, plain, tuned]: [f64; 3]) -> Ratios {
 }
 
 /// Prints a line where only plain safe Rust stands against the library.
-fn line_plain(what: &str, calls: usize, [ours, plain]: [f64; 2]) {
+fn line_plain(what: &str, calls: usize, [ours, plain]: [f64; 2]) -> f64 {
     let calls = calls as f64;
     println!(
         "| {what} | {:.1} | {:.1} | | {:.2} | |",
@@ -119,6 +119,7 @@ fn line_plain(what: &str, calls: usize, [ours, plain]: [f64; 2]) {
         plain / calls,
         ours / plain
     );
+    ours / plain
 }
 
 /// A ratio that must not be passed.
@@ -419,6 +420,104 @@ fn time_many() -> Vec<Bar> {
     ]
 }
 
+/// Two tables that are compared.
+type Pair = [Vec<u8>; 2];
+
+/// Each table with the next one: mostly another face of the family.
+fn neighbours(tables: &[Vec<u8>]) -> Vec<Pair> {
+    tables
+        .windows(2)
+        .map(|two| [two[0].clone(), two[1].clone()])
+        .collect()
+}
+
+/// Work over each pair in turn, in room that is enough, the result kept from being optimised away.
+fn over_pairs<'a, N: Copy + Default + 'a, R>(
+    pairs: &'a [Pair],
+    f: impl Fn(&[u8], &[u8], &mut [N]) -> R + 'a,
+) -> Box<dyn FnMut() + 'a> {
+    let mut room = vec![N::default(); 5 * 2 * 5460];
+    Box::new(move || {
+        for [left, right] in pairs {
+            black_box(f(black_box(left), black_box(right), &mut room));
+        }
+    })
+}
+
+/// That the library and plain safe Rust compare the pairs alike, and that no room but one that is too small is refused.
+fn agree_pairs<N: Copy + Default + PartialEq + Debug>(
+    pairs: &[Pair],
+    library: impl Fn(&[u8], &[u8], &mut [N]) -> answers::Compared,
+    plain: impl Fn(&[u8], &[u8], &mut [N]) -> answers::Compared,
+) {
+    for [left, right] in pairs {
+        let mut rooms = [0, 1].map(|_| vec![N::default(); 5 * 2 * 5460]);
+        let [ours, theirs] = &mut rooms;
+        let done = library(left, right, ours);
+        assert_eq!(done, plain(left, right, theirs), "a comparison differs");
+        assert_eq!(ours, theirs, "the rows differ");
+        if let Ok(count @ 1..) = done {
+            let short = 5 * count - 1;
+            assert_eq!(
+                library(left, right, &mut ours[..short]),
+                plain(left, right, &mut theirs[..short]),
+                "a comparison in too little room differs"
+            );
+        }
+    }
+}
+
+fn time_comparisons(names: &[Vec<u8>], os2s: &[Vec<u8>]) -> Vec<Bar> {
+    let fonts = neighbours(names);
+    let [one, all] = [fonts::one_byte_changed(), {
+        let t = fonts::many_records(5460);
+        let mut changed = t.clone();
+        *changed.last_mut().expect("its string has a byte") = b'y';
+        [t, changed]
+    }]
+    .map(|pair| [pair]);
+    let tables = neighbours(os2s);
+    for pairs in [&fonts[..], &one, &all] {
+        agree_pairs(pairs, library::compare_names, plain::compare_names);
+    }
+    agree_pairs(
+        &tables,
+        |l, r, room| library::compare_os2(l, r, 5, room),
+        |l, r, room| plain::compare_os2(l, r, 5, room),
+    );
+    let time = |what, calls, pairs: &[Pair]| {
+        line_plain(
+            what,
+            calls,
+            best([
+                over_pairs(pairs, raw::compare_names),
+                over_pairs(pairs, plain::compare_names),
+            ]),
+        )
+    };
+    let of_fonts = time("compare 'name', two fonts", fonts.len(), &fonts);
+    let of_one = time("compare 'name', 5460 records, one byte changed", 1, &one);
+    let of_all = time("compare 'name', 5460 records, each changed", 1, &all);
+    let of_os2 = line_plain(
+        "compare 'OS/2', two fonts",
+        tables.len(),
+        best([
+            over_pairs(&tables, |l, r, room| {
+                raw::compare_os2(l, r, black_box(5), room)
+            }),
+            over_pairs(&tables, |l, r, room| {
+                plain::compare_os2(l, r, black_box(5), room)
+            }),
+        ]),
+    );
+    vec![
+        bar("compare 'name', two fonts, to plain", 1.2, of_fonts),
+        bar("compare 'name', one byte changed, to plain", 1.2, of_one),
+        bar("compare 'name', each changed, to plain", 1.2, of_all),
+        bar("compare 'OS/2', two fonts, to plain", 1.2, of_os2),
+    ]
+}
+
 /// Another reader of fonts. It does other work: it checks less and says less.
 pub struct Other {
     /// Its name.
@@ -486,6 +585,7 @@ pub fn run(other: Option<Other>) -> ExitCode {
         time_names(&found.names),
         time_os2s(&found.os2s),
         time_many(),
+        time_comparisons(&found.names, &found.os2s),
     ]
     .concat();
     println!();

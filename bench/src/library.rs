@@ -1,6 +1,6 @@
 //! The proved library, as `include/gyalvindor.h` declares it.
 
-use crate::answers::{Answer, Optical, Refusal, Result, Text, Written};
+use crate::answers::{Answer, Compared, Optical, Refusal, Result, Text, Written};
 
 #[repr(C)]
 #[derive(Clone, Copy)]
@@ -61,6 +61,13 @@ pub struct GvWritten {
     size: usize,
 }
 
+#[repr(C)]
+pub struct GvCompared {
+    refusal: GvRefusal,
+    side: u32,
+    rows: usize,
+}
+
 unsafe extern "C" {
     fn gv_name_check(table: *const u8, length: usize) -> GvRefusal;
     fn gv_name_lookup(
@@ -82,6 +89,23 @@ unsafe extern "C" {
     fn gv_os2_style_position(table: *const u8, length: usize, level: u32) -> GvStyle;
     fn gv_os2_optical_sizes(table: *const u8, length: usize, level: u32) -> GvOptical;
     fn gv_os2_write(numbers: *const i64, room: *mut u8, length: usize) -> GvWritten;
+    fn gv_os2_compare(
+        left: *const u8,
+        left_length: usize,
+        right: *const u8,
+        right_length: usize,
+        level: u32,
+        room: *mut i64,
+        numbers: usize,
+    ) -> GvCompared;
+    fn gv_name_compare(
+        left: *const u8,
+        left_length: usize,
+        right: *const u8,
+        right_length: usize,
+        room: *mut u16,
+        numbers: usize,
+    ) -> GvCompared;
 }
 
 /// The library's functions on slices, answering in its own words.
@@ -154,6 +178,35 @@ pub mod raw {
     #[inline]
     pub fn write(numbers: &[i64; 48], room: &mut [u8]) -> GvWritten {
         unsafe { gv_os2_write(numbers.as_ptr(), room.as_mut_ptr(), room.len()) }
+    }
+
+    #[inline]
+    pub fn compare_os2(left: &[u8], right: &[u8], level: u32, room: &mut [i64]) -> GvCompared {
+        unsafe {
+            gv_os2_compare(
+                left.as_ptr(),
+                left.len(),
+                right.as_ptr(),
+                right.len(),
+                level,
+                room.as_mut_ptr(),
+                room.len(),
+            )
+        }
+    }
+
+    #[inline]
+    pub fn compare_names(left: &[u8], right: &[u8], room: &mut [u16]) -> GvCompared {
+        unsafe {
+            gv_name_compare(
+                left.as_ptr(),
+                left.len(),
+                right.as_ptr(),
+                right.len(),
+                room.as_mut_ptr(),
+                room.len(),
+            )
+        }
     }
 }
 
@@ -259,4 +312,16 @@ pub fn optical_sizes(t: &[u8], level: u32) -> Result<Answer<Optical>> {
 pub fn write(numbers: &[i64; 48], room: &mut [u8]) -> Written {
     let r = raw::write(numbers, room);
     none_or(r.refusal, r.size)
+}
+
+fn compared(r: GvCompared) -> Compared {
+    none_or(r.refusal, r.rows).map_err(|refusal| (r.side, refusal))
+}
+
+pub fn compare_os2(left: &[u8], right: &[u8], level: u32, room: &mut [i64]) -> Compared {
+    compared(raw::compare_os2(left, right, level, room))
+}
+
+pub fn compare_names(left: &[u8], right: &[u8], room: &mut [u16]) -> Compared {
+    compared(raw::compare_names(left, right, room))
 }

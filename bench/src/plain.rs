@@ -1,6 +1,9 @@
 //! Plain safe Rust: the rules written down one after the other, each number read where it is wanted.
 
-use crate::answers::{Answer, Optical, Result, Text, Written, refuse, refuse_at};
+use crate::answers::{
+    Answer, Compared, Optical, Refusal, Result, Text, Written, refuse, refuse_at,
+};
+use std::cmp::Ordering;
 
 fn u16_at(t: &[u8], at: usize) -> u16 {
     u16::from_be_bytes([t[at], t[at + 1]])
@@ -111,9 +114,9 @@ fn find(t: &[u8], key: Key) -> Option<Text> {
         let middle = (low + high) / 2;
         let record = Record::read(t, middle);
         match record.key().cmp(&key) {
-            std::cmp::Ordering::Less => low = middle + 1,
-            std::cmp::Ordering::Greater => high = middle,
-            std::cmp::Ordering::Equal => {
+            Ordering::Less => low = middle + 1,
+            Ordering::Greater => high = middle,
+            Ordering::Equal => {
                 return Some(Text {
                     start: u16_at(t, 4) as usize + record.offset as usize,
                     length: record.length as usize,
@@ -135,6 +138,88 @@ pub fn lookup(t: &[u8], key: [u16; 4]) -> Result<Text> {
 
 fn bytes(t: &[u8], text: Text) -> &[u8] {
     &t[text.start..text.start + text.length]
+}
+
+/// The keys in which two accepted tables differ, in their order, each with 1 for only left, 2 for only right, 3 for other bytes.
+struct KeyDifferences<'a> {
+    left: &'a [u8],
+    right: &'a [u8],
+    i: usize,
+    j: usize,
+}
+
+impl Iterator for KeyDifferences<'_> {
+    type Item = (Key, u16);
+
+    fn next(&mut self) -> Option<(Key, u16)> {
+        let string = |t: &[u8], record: &Record| Text {
+            start: u16_at(t, 4) as usize + record.offset as usize,
+            length: record.length as usize,
+        };
+        loop {
+            let here = self.i < u16_at(self.left, 2) as usize;
+            let there = self.j < u16_at(self.right, 2) as usize;
+            let order = match (here, there) {
+                (false, false) => return None,
+                (true, false) => Ordering::Less,
+                (false, true) => Ordering::Greater,
+                (true, true) => Record::read(self.left, self.i)
+                    .key()
+                    .cmp(&Record::read(self.right, self.j).key()),
+            };
+            match order {
+                Ordering::Less => {
+                    self.i += 1;
+                    return Some((Record::read(self.left, self.i - 1).key(), 1));
+                }
+                Ordering::Greater => {
+                    self.j += 1;
+                    return Some((Record::read(self.right, self.j - 1).key(), 2));
+                }
+                Ordering::Equal => {
+                    let [a, b] = [
+                        Record::read(self.left, self.i),
+                        Record::read(self.right, self.j),
+                    ];
+                    self.i += 1;
+                    self.j += 1;
+                    if bytes(self.left, string(self.left, &a))
+                        != bytes(self.right, string(self.right, &b))
+                    {
+                        return Some((a.key(), 3));
+                    }
+                }
+            }
+        }
+    }
+}
+
+const TOO_MANY: (u32, Refusal) = (
+    0,
+    Refusal {
+        number: 29,
+        carried: 0,
+    },
+);
+
+#[inline(never)]
+pub fn compare_names(left: &[u8], right: &[u8], room: &mut [u16]) -> Compared {
+    check(left).map_err(|r| (1, r))?;
+    check(right).map_err(|r| (2, r))?;
+    let differences = || KeyDifferences {
+        left,
+        right,
+        i: 0,
+        j: 0,
+    };
+    let count = differences().count();
+    if room.len() / 5 < count {
+        return Err(TOO_MANY);
+    }
+    for (row, (key, which)) in room.chunks_exact_mut(5).take(count).zip(differences()) {
+        row.copy_from_slice(&[key.0, key.1, key.2, key.3, which]);
+    }
+    Ok(count)
 }
 
 fn allowed(byte: u8) -> bool {
@@ -396,6 +481,38 @@ pub fn field(t: &[u8], level: u32, number: u32) -> Result<Answer<i64>> {
     let version = opened(t, level, number, 47, 6)?;
     let f = &FIELDS[number as usize];
     Ok(by_since(f.since, level, version, || value(t, f)))
+}
+
+#[inline(never)]
+pub fn compare_os2(left: &[u8], right: &[u8], level: u32, room: &mut [i64]) -> Compared {
+    if level > 5 {
+        return refuse(1).map_err(|r| (0, r));
+    }
+    let versions = [
+        accepted(left, level).map_err(|r| (1, r))?,
+        accepted(right, level).map_err(|r| (2, r))?,
+    ];
+    let differences = || {
+        FIELDS.iter().enumerate().filter_map(|(k, f)| {
+            let a = by_since(f.since, level, versions[0], || value(left, f));
+            let b = by_since(f.since, level, versions[1], || value(right, f));
+            (a != b).then_some((k, a, b))
+        })
+    };
+    let count = differences().count();
+    if room.len() / 5 < count {
+        return Err(TOO_MANY);
+    }
+    let said = |answer: Answer<i64>| match answer {
+        Answer::Value(x) => (1, x),
+        Answer::Absent => (2, 0),
+        Answer::NotKnown => (3, 0),
+    };
+    for (row, (k, a, b)) in room.chunks_exact_mut(5).take(count).zip(differences()) {
+        let (a, b) = (said(a), said(b));
+        row.copy_from_slice(&[k as i64, a.0, a.1, b.0, b.1]);
+    }
+    Ok(count)
 }
 
 #[inline(never)]

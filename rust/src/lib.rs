@@ -1,4 +1,4 @@
-//! Reads the 'name' and 'OS/2' tables of a font, and writes 'OS/2' tables.
+//! Reads the 'name' and 'OS/2' tables of a font, lists what differs between two of them, and writes 'OS/2' tables.
 //!
 //! A font file is a set of tables. Two of them say what the font is called and how it fits in with others: 'name' holds
 //! strings in several languages, and 'OS/2' holds some fifty numbers. This crate takes the bytes of such a table, wherever
@@ -82,6 +82,11 @@
 //! # Ok::<(), Refusal>(())
 //! ```
 //!
+//! # Two tables compared
+//!
+//! [`os2::compare`] and [`name::compare`] list what differs between two tables, in rows that the caller lends: the fields with
+//! different answers at a level, or the keys that only one table has and those with other string bytes.
+//!
 //! # Numbers
 //!
 //! Levels, fields, bits and the parts of a key are plain `u32` numbers, and any number gets an answer: one that is out of
@@ -97,7 +102,7 @@ pub mod os2;
 mod raw;
 mod refusal;
 
-pub use refusal::{Refusal, Rule};
+pub use refusal::{CompareRefusal, Refusal, Rule, Side};
 
 /// An answer on an 'OS/2' table that the level accepts.
 ///

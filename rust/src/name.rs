@@ -3,12 +3,12 @@
 //! The table holds records. Each has a key of four numbers (platform, encoding, language, name) and the place of a string.
 //! In format 1 it also holds language tags, to which language numbers from 0x8000 upwards refer.
 //!
-//! Every question checks the whole table first and is refused where [`check`] is.
+//! Every question checks the whole table first and is refused where [`check`] is. [`compare`] does so with both tables.
 
 use core::ops::Range;
 
 use crate::raw;
-use crate::Refusal;
+use crate::{CompareRefusal, Refusal};
 
 /// Where a string lies in the table.
 #[derive(Clone, Copy, Debug, PartialEq, Eq, Hash)]
@@ -187,4 +187,112 @@ fn text(raw: raw::Text) -> Result<Text, Refusal> {
         start: raw.start,
         length: raw.length,
     })
+}
+
+/// What a key of two tables is, where they differ in it.
+#[derive(Clone, Copy, Debug, PartialEq, Eq, Hash)]
+pub enum Which {
+    /// Only the left table has it.
+    OnlyLeft,
+    /// Only the right table has it.
+    OnlyRight,
+    /// Both have it, with other string bytes.
+    OtherBytes,
+}
+
+/// A key in which two tables differ: a row of [`compare`].
+#[repr(C)]
+#[derive(Clone, Copy, Debug, PartialEq, Eq, Hash)]
+pub struct Difference {
+    /// The key's four numbers.
+    pub platform: u16,
+    #[allow(missing_docs)]
+    pub encoding: u16,
+    #[allow(missing_docs)]
+    pub language: u16,
+    #[allow(missing_docs)]
+    pub name: u16,
+    which: u16,
+}
+
+impl Difference {
+    /// A row to make room with. It is no difference until [`compare`] has written it.
+    pub const ROOM: Difference = Difference {
+        platform: 0,
+        encoding: 0,
+        language: 0,
+        name: 0,
+        which: 0,
+    };
+
+    /// The key's four numbers, in their order.
+    pub const fn key(self) -> [u16; 4] {
+        [self.platform, self.encoding, self.language, self.name]
+    }
+
+    /// What the key is; nothing for a row that was not written.
+    pub const fn which(self) -> Option<Which> {
+        match self.which {
+            1 => Some(Which::OnlyLeft),
+            2 => Some(Which::OnlyRight),
+            3 => Some(Which::OtherBytes),
+            _ => None,
+        }
+    }
+}
+
+/// The keys in which two tables differ, in the order of keys, each once: those that only one has, and those that both have
+/// with other string bytes, wherever the strings lie. They are written into the first rows, which is the answer; the other
+/// rows hold what they held. As many rows as both tables have records are always enough.
+///
+/// # Errors
+///
+/// The refusal of the left table, as [`check`] gives it, then that of the right one, each with its side; then
+/// [`Refusal::TooManyDifferences`], where there are fewer rows than differences. The rows then hold what they held.
+///
+/// # Examples
+///
+/// ```
+/// use gyalvindor::name::{self, Difference, Which};
+/// use gyalvindor::{CompareRefusal, Refusal};
+///
+/// // Each has two records with strings of one byte.
+/// let left = [
+///     0, 0, 0, 2, 0, 30, //
+///     0, 1, 0, 0, 0, 0, 0, 1, 0, 1, 0, 0, // (1, 0, 0, 1): "A"
+///     0, 1, 0, 0, 0, 0, 0, 2, 0, 1, 0, 1, // (1, 0, 0, 2): "B"
+///     b'A', b'B',
+/// ];
+/// let right = [
+///     0, 0, 0, 2, 0, 30, //
+///     0, 1, 0, 0, 0, 0, 0, 2, 0, 1, 0, 0, // (1, 0, 0, 2): "C"
+///     0, 1, 0, 0, 0, 0, 0, 4, 0, 1, 0, 0, // (1, 0, 0, 4): "C"
+///     b'C',
+/// ];
+///
+/// let mut room = [Difference::ROOM; 4];
+/// let rows = name::compare(&left, &right, &mut room)?;
+/// let said: Vec<_> = rows.iter().map(|row| (row.key(), row.which())).collect();
+/// assert_eq!(
+///     said,
+///     [
+///         ([1, 0, 0, 1], Some(Which::OnlyLeft)),
+///         ([1, 0, 0, 2], Some(Which::OtherBytes)),
+///         ([1, 0, 0, 4], Some(Which::OnlyRight)),
+///     ]
+/// );
+///
+/// // A table does not differ from itself, and three differences need three rows.
+/// assert_eq!(name::compare(&left, &left, &mut [])?, []);
+/// let refused = name::compare(&left, &right, &mut room[..2]).unwrap_err();
+/// assert_eq!(refused, CompareRefusal { side: None, refusal: Refusal::TooManyDifferences });
+/// # Ok::<(), CompareRefusal>(())
+/// ```
+pub fn compare<'a>(
+    left: &[u8],
+    right: &[u8],
+    rows: &'a mut [Difference],
+) -> Result<&'a [Difference], CompareRefusal> {
+    let count = CompareRefusal::checked(raw::name_compare(left, right, rows))?;
+    Ok(&rows[..count])
 }

@@ -4,7 +4,7 @@
 //! is read as far as the level knows it, and its values are not judged by rules that may have changed since.
 
 use crate::raw;
-use crate::{Answer, Refusal};
+use crate::{Answer, CompareRefusal, Refusal};
 
 /// The lowest level.
 pub const OLDEST: u32 = 0;
@@ -422,6 +422,106 @@ pub fn write(numbers: &[i64; FIELD_COUNT], room: &mut [u8]) -> Result<usize, Ref
 /// ```
 pub fn rewrite(table: &[u8], room: &mut [u8]) -> Result<usize, Refusal> {
     written(raw::os2_rewrite(table, room))
+}
+
+/// A field in which two tables differ: a row of [`compare`].
+#[repr(C)]
+#[derive(Clone, Copy, Debug, PartialEq, Eq, Hash)]
+pub struct Difference {
+    field: i64,
+    left_kind: i64,
+    left_value: i64,
+    right_kind: i64,
+    right_value: i64,
+}
+
+impl Difference {
+    /// A row to make room with. It is no difference until [`compare`] has written it.
+    pub const ROOM: Difference = Difference {
+        field: 0,
+        left_kind: 3,
+        left_value: 0,
+        right_kind: 3,
+        right_value: 0,
+    };
+
+    /// The field's number, 0 to 47.
+    pub const fn field(self) -> u32 {
+        self.field as u32
+    }
+
+    /// What [`field`] answers for it on the left table.
+    pub const fn left(self) -> Answer<i64> {
+        told(self.left_kind, self.left_value)
+    }
+
+    /// What [`field`] answers for it on the right table.
+    pub const fn right(self) -> Answer<i64> {
+        told(self.right_kind, self.right_value)
+    }
+}
+
+/// The answer of a row: 1 a value, 2 absent. No row that the library writes has a field that is not known.
+const fn told(kind: i64, value: i64) -> Answer<i64> {
+    match kind {
+        1 => Answer::Value(value),
+        2 => Answer::Absent,
+        _ => Answer::NotKnown,
+    }
+}
+
+/// The fields in which two tables differ at a level, in the order of their numbers: those for which [`field`] gives different
+/// answers. Absent is another answer than a value. A field that came in after the level is not known on both sides, so it is
+/// not listed. They are written into the first rows, which is the answer; the other rows hold what they held. [`FIELD_COUNT`]
+/// rows are always enough.
+///
+/// # Errors
+///
+/// [`Refusal::UnknownLevel`] first; then the refusal of the left table, as [`check`] gives it, then that of the right one, each
+/// with its side; then [`Refusal::TooManyDifferences`], where there are fewer rows than differences. The rows then hold what
+/// they held.
+///
+/// # Examples
+///
+/// ```
+/// use gyalvindor::os2::{self, fields, Difference};
+/// use gyalvindor::{Answer, CompareRefusal, Refusal, Side};
+///
+/// // Version 0, and version 1 with another weight and no code pages.
+/// let mut left = [0; 78];
+/// left[4..8].copy_from_slice(&[1, 144, 0, 5]);
+/// let mut right = [0; 86];
+/// right[1] = 1;
+/// right[4..8].copy_from_slice(&[2, 188, 0, 5]);
+///
+/// let mut room = [Difference::ROOM; os2::FIELD_COUNT];
+/// let rows = os2::compare(&left, &right, os2::NEWEST, &mut room)?;
+/// let said: Vec<_> = rows.iter().map(|row| (row.field(), row.left(), row.right())).collect();
+/// assert_eq!(
+///     said,
+///     [
+///         (fields::VERSION, Answer::Value(0), Answer::Value(1)),
+///         (fields::WEIGHT, Answer::Value(400), Answer::Value(700)),
+///         (39, Answer::Absent, Answer::Value(0)),
+///         (40, Answer::Absent, Answer::Value(0)),
+///     ]
+/// );
+///
+/// // A level 0 reader does not know code pages.
+/// assert_eq!(os2::compare(&left, &right, 0, &mut room)?.len(), 2);
+///
+/// let refused = os2::compare(&left, &right[..85], 5, &mut room).unwrap_err();
+/// assert_eq!((refused.side, refused.refusal), (Some(Side::Right), Refusal::Os2TooShort));
+/// # Ok::<(), CompareRefusal>(())
+/// ```
+pub fn compare<'a>(
+    left: &[u8],
+    right: &[u8],
+    level: u32,
+    rows: &'a mut [Difference],
+) -> Result<&'a [Difference], CompareRefusal> {
+    let count = CompareRefusal::checked(raw::os2_compare(left, right, level, rows))?;
+    Ok(&rows[..count])
 }
 
 /// The answer of a kind: 1 a value, 2 absent, 3 not known.

@@ -4,8 +4,10 @@
 //!
 //! What makes every call below sound is the same. A slice lends `len()` bytes that nobody changes (or, for the room, that
 //! nobody else touches) until the call is over, and its pointer is never null, also where the slice is empty. The library
-//! reads only the table and the 48 numbers, writes only the room, keeps no pointer, and answers whatever the bytes and
+//! reads only the tables and the 48 numbers, writes only the room, keeps no pointer, and answers whatever the bytes and
 //! numbers are.
+
+use crate::{name, os2};
 
 /// `gv_refusal`.
 #[repr(C)]
@@ -81,7 +83,16 @@ pub(crate) struct Written {
     pub(crate) size: usize,
 }
 
-// SAFETY: these are the fourteen functions of `include/gyalvindor.h`, with the types given there.
+/// `gv_compared`.
+#[repr(C)]
+#[derive(Clone, Copy)]
+pub(crate) struct Compared {
+    pub(crate) refusal: Refusal,
+    pub(crate) side: u32,
+    pub(crate) rows: usize,
+}
+
+// SAFETY: these are the sixteen functions of `include/gyalvindor.h`, with the types given there.
 unsafe extern "C" {
     fn gv_name_check(table: *const u8, length: usize) -> Refusal;
     fn gv_name_lookup(
@@ -109,6 +120,23 @@ unsafe extern "C" {
         room: *mut u8,
         length: usize,
     ) -> Written;
+    fn gv_os2_compare(
+        left: *const u8,
+        left_length: usize,
+        right: *const u8,
+        right_length: usize,
+        level: u32,
+        room: *mut i64,
+        numbers: usize,
+    ) -> Compared;
+    fn gv_name_compare(
+        left: *const u8,
+        left_length: usize,
+        right: *const u8,
+        right_length: usize,
+        room: *mut u16,
+        numbers: usize,
+    ) -> Compared;
 }
 
 pub(crate) fn name_check(table: &[u8]) -> Refusal {
@@ -191,4 +219,40 @@ pub(crate) fn os2_rewrite(table: &[u8], room: &mut [u8]) -> Written {
     // SAFETY: the table lends `len()` readable bytes. The room lends `len()` writable bytes that nothing else refers to, so
     // it does not overlap the table. Neither pointer is null.
     unsafe { gv_os2_rewrite(table.as_ptr(), table.len(), room.as_mut_ptr(), room.len()) }
+}
+
+pub(crate) fn os2_compare(
+    left: &[u8],
+    right: &[u8],
+    level: u32,
+    rows: &mut [os2::Difference],
+) -> Compared {
+    // SAFETY: each table lends `len()` readable bytes. A row is `repr(C)` with five `i64` and nothing else, so the rows lend
+    // five times `len()` writable numbers, which nothing else refers to; any numbers make a row. No pointer is null, and any
+    // level may be given.
+    unsafe {
+        gv_os2_compare(
+            left.as_ptr(),
+            left.len(),
+            right.as_ptr(),
+            right.len(),
+            level,
+            rows.as_mut_ptr().cast(),
+            5 * rows.len(),
+        )
+    }
+}
+
+pub(crate) fn name_compare(left: &[u8], right: &[u8], rows: &mut [name::Difference]) -> Compared {
+    // SAFETY: as above; a row is `repr(C)` with five `u16` and nothing else.
+    unsafe {
+        gv_name_compare(
+            left.as_ptr(),
+            left.len(),
+            right.as_ptr(),
+            right.len(),
+            rows.as_mut_ptr().cast(),
+            5 * rows.len(),
+        )
+    }
 }

@@ -93,6 +93,8 @@ pub enum Refusal {
     PostScriptDiffer,
     /// 25: there is no version number in the version string.
     NoVersionNumber,
+    /// 29: two tables have more differences than there are rows for.
+    TooManyDifferences,
 }
 
 /// The rules that the values of an 'OS/2' table have to keep. They are checked in this order.
@@ -170,7 +172,7 @@ impl fmt::Display for Rule {
 }
 
 impl Refusal {
-    /// The refusal's number: 1 to 8, 10 to 18 or 20 to 25.
+    /// The refusal's number: 1 to 8, 10 to 18, 20 to 25 or 29.
     pub const fn number(self) -> u32 {
         match self {
             Refusal::UnknownLevel => 1,
@@ -196,6 +198,7 @@ impl Refusal {
             Refusal::PostScriptIllFormed => 23,
             Refusal::PostScriptDiffer => 24,
             Refusal::NoVersionNumber => 25,
+            Refusal::TooManyDifferences => 29,
         }
     }
 
@@ -240,6 +243,7 @@ impl Refusal {
             23 => Refusal::PostScriptIllFormed,
             24 => Refusal::PostScriptDiffer,
             25 => Refusal::NoVersionNumber,
+            29 => Refusal::TooManyDifferences,
             number => unreachable!("the library knows no refusal {number}"),
         })
     }
@@ -299,8 +303,67 @@ impl fmt::Display for Refusal {
             Refusal::NoVersionNumber => {
                 f.write_str("there is no version number in the version string")
             }
+            Refusal::TooManyDifferences => {
+                f.write_str("the two tables have more differences than there are rows for")
+            }
         }
     }
 }
 
 impl core::error::Error for Refusal {}
+
+/// One of two tables that are compared.
+#[derive(Clone, Copy, Debug, PartialEq, Eq, Hash)]
+pub enum Side {
+    /// The first one.
+    Left,
+    /// The second one.
+    Right,
+}
+
+/// Why a comparison of two tables lists nothing: a refusal, and which table it is about.
+///
+/// ```
+/// use gyalvindor::{name, Refusal, Side};
+///
+/// let empty = [0, 0, 0, 0, 0, 6];
+/// let refused = name::compare(&empty, &[0, 2, 0, 0, 0, 6], &mut []).unwrap_err();
+/// assert_eq!((refused.side, refused.refusal), (Some(Side::Right), Refusal::UnknownFormat));
+/// assert_eq!(refused.to_string(), "right: the 'name' table's format is neither 0 nor 1");
+/// ```
+#[derive(Clone, Copy, Debug, PartialEq, Eq, Hash)]
+pub struct CompareRefusal {
+    /// The table that is refused. None for [`Refusal::UnknownLevel`] and [`Refusal::TooManyDifferences`].
+    pub side: Option<Side>,
+    /// Its own refusal, or why there is no list.
+    pub refusal: Refusal,
+}
+
+impl CompareRefusal {
+    /// How many rows the library wrote, or its refusal with the side.
+    pub(crate) fn checked(raw: raw::Compared) -> Result<usize, CompareRefusal> {
+        let side = match raw.side {
+            0 => None,
+            1 => Some(Side::Left),
+            2 => Some(Side::Right),
+            side => unreachable!("the library knows no side {side}"),
+        };
+        match Refusal::checked(raw.refusal) {
+            Ok(()) => Ok(raw.rows),
+            Err(refusal) => Err(CompareRefusal { side, refusal }),
+        }
+    }
+}
+
+/// The side, where there is one, and the refusal in plain words.
+impl fmt::Display for CompareRefusal {
+    fn fmt(&self, f: &mut fmt::Formatter<'_>) -> fmt::Result {
+        match self.side {
+            Some(Side::Left) => write!(f, "left: {}", self.refusal),
+            Some(Side::Right) => write!(f, "right: {}", self.refusal),
+            None => self.refusal.fmt(f),
+        }
+    }
+}
+
+impl core::error::Error for CompareRefusal {}

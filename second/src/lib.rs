@@ -1,18 +1,21 @@
-//! A second, independent reader of 'name' tables and reader and writer of
-//! 'OS/2' tables, written from document 01, "The font desk's rules for 'name'
-//! and 'OS/2'", and Ask 1 of document 02, "The next customer requests", alone.
+//! A second, independent reader of 'name' tables, reader and writer of 'OS/2'
+//! tables and comparison of two of either, written from document 01, "The font
+//! desk's rules for 'name' and 'OS/2'", and Asks 1 and 2 of document 02, "The
+//! next customer requests", alone.
 //!
 //! It exists to be compared with another program. So it is written for plain
 //! reading in the order of document 01, and not for speed.
 //!
 //! * [`name`]: the 'name' check, lookup, PostScript question, version question.
 //! * [`os2`]: the 'OS/2' acceptance, the seven questions, the writer, rewriting.
-//! * [`listing`]: the lines of the listing program.
+//! * [`compare`]: what changed between two tables (document 02, Ask 2).
+//! * [`listing`]: the lines of the listing program and of the compare tool.
 //! * [`sfnt`]: cuts the two tables out of a font file (not part of document 01).
 
 #![forbid(unsafe_code)]
 #![warn(missing_docs)]
 
+pub mod compare;
 pub mod listing;
 pub mod name;
 pub mod os2;
@@ -20,7 +23,8 @@ pub mod sfnt;
 
 use std::fmt;
 
-/// A refusal: its number in document 01's table, and what it carries.
+/// A refusal: its number in document 01's table, or 29 of document 02's Ask 2,
+/// and what it carries.
 ///
 /// 3 carries the first rule broken (1 to 7), 8 the lowest field that does not
 /// fit, 15, 17 and 18 a record, 16 a tag. All others carry nothing.

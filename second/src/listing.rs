@@ -1,14 +1,17 @@
-//! The listing program's lines for one 'name' table, and this program's own
-//! lines for one 'OS/2' table and for a font.
+//! The listing program's lines for one 'name' table, the compare tool's lines
+//! for two tables, and this program's own lines for one 'OS/2' table and for a
+//! font.
 
 use std::fmt::Write;
 
+use crate::compare::{self, Which};
 use crate::name;
 use crate::os2::{self, Answer, OpticalSizes, Rights, StylePosition};
 use crate::sfnt;
 use crate::Refusal;
 
-/// The longest 'name' table that is listed, in bytes.
+/// The longest 'name' table that is listed, and the longest table of either kind
+/// that is compared, in bytes.
 pub const LONGEST: usize = 65_536;
 
 /// The lines for one 'name' table, each ended by a line feed, exactly as
@@ -103,6 +106,73 @@ pub fn font(level: u32, file: &[u8]) -> String {
         None => lines.push_str("no OS/2 table\n"),
     }
     lines
+}
+
+/// The compare tool's lines for two 'OS/2' tables at a level, each ended by a
+/// line feed: for each difference the field and both answers. Where something is
+/// refused or too long it is one line: 1 for the level, then what is said of the
+/// left table, then what is said of the right one.
+pub fn compare_os2(level: u32, left: &[u8], right: &[u8]) -> String {
+    if level <= os2::NEWEST {
+        let left_refusal = os2::accept(level, left).err();
+        if let Some(words) = too_long(left, left_refusal, right) {
+            return words;
+        }
+    }
+    let differences = match compare::os2_differences(level, left, right) {
+        Ok(differences) => differences,
+        Err(refused) => return format!("{refused}\n"),
+    };
+    let mut lines = String::new();
+    for difference in differences {
+        let left = three_cases(difference.left, |value| value.to_string());
+        let right = three_cases(difference.right, |value| value.to_string());
+        line(
+            &mut lines,
+            format_args!("{} {left} {right}", difference.field),
+        );
+    }
+    lines
+}
+
+/// The compare tool's lines for two 'name' tables, each ended by a line feed:
+/// for each difference `left`, `right` or `both` and the key's four numbers.
+/// Where something is refused or too long it is one line: what is said of the
+/// left table, then what is said of the right one.
+pub fn compare_name(left: &[u8], right: &[u8]) -> String {
+    if let Some(words) = too_long(left, name::check(left).err(), right) {
+        return words;
+    }
+    let differences = match compare::name_differences(left, right) {
+        Ok(differences) => differences,
+        Err(refused) => return format!("{refused}\n"),
+    };
+    let mut lines = String::new();
+    for difference in differences {
+        let (platform, encoding, language, name) = difference.key;
+        let which = match difference.which {
+            Which::OnlyLeft => "left",
+            Which::OnlyRight => "right",
+            Which::OtherBytes => "both",
+        };
+        line(
+            &mut lines,
+            format_args!("{which} {platform} {encoding} {language} {name}"),
+        );
+    }
+    lines
+}
+
+/// The line for a table that is too long to be compared, if it is the first
+/// thing to say: the left one's own refusal comes before the right one's length.
+fn too_long(left: &[u8], left_refusal: Option<Refusal>, right: &[u8]) -> Option<String> {
+    if left.len() > LONGEST {
+        Some("left too long\n".to_string())
+    } else if left_refusal.is_none() && right.len() > LONGEST {
+        Some("right too long\n".to_string())
+    } else {
+        None
+    }
 }
 
 /// Adds one line and its line feed.

@@ -76,6 +76,13 @@ pub struct Table {
     pub tags: Vec<Tag>,
 }
 
+impl Table {
+    /// A record's string bytes, out of the table's bytes.
+    pub fn string_of<'a>(&self, record: &Record, bytes: &'a [u8]) -> &'a [u8] {
+        string(bytes, span(self, record))
+    }
+}
+
 /// A string's place in the table.
 #[derive(Clone, Copy, Debug, PartialEq, Eq)]
 pub struct Span {

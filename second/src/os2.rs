@@ -334,6 +334,12 @@ pub fn field(level: u32, table: &[u8], number: u32) -> Result<Answer, Refusal> {
     Ok(three_cases(level, table, field.since, field, None))
 }
 
+/// Question 1 for each of the 48 fields, in their order. Refusals: 1, 2, 3.
+pub fn fields(level: u32, table: &[u8]) -> Result<[Answer; FIELD_COUNT], Refusal> {
+    accept(level, table)?;
+    Ok(FIELDS.map(|field| three_cases(level, table, field.since, field, None)))
+}
+
 /// Question 2, an fsSelection bit 0 to 9. Refusals: 1, 7, 2, 3.
 pub fn selection_bit(level: u32, table: &[u8], bit: u32) -> Result<Answer, Refusal> {
     check_level(level)?;

@@ -165,3 +165,127 @@ fn os2_refused_lines() {
     assert_eq!(listing::os2(5, &[]), "refused 2\n");
     assert_eq!(listing::os2(5, &os2(&[(6, 0)])), "refused 3 at 2\n");
 }
+
+// ---- the compare tool ----
+
+#[test]
+fn compare_os2_lines() {
+    let left = os2(&[(0, 4), (2, 0xFF9C)]);
+    let right = os2(&[(0, 5), (2, 500), (4, 700), (96, 160), (98, 320)]);
+    assert_eq!(
+        listing::compare_os2(5, &left, &right),
+        "0 4 5\n1 -100 500\n2 400 700\n46 absent 160\n47 absent 320\n"
+    );
+    assert_eq!(
+        listing::compare_os2(5, &right, &left),
+        "0 5 4\n1 500 -100\n2 700 400\n46 160 absent\n47 320 absent\n"
+    );
+    assert_eq!(
+        listing::compare_os2(4, &left, &right),
+        "0 4 5\n1 -100 500\n2 400 700\n"
+    );
+    assert_eq!(listing::compare_os2(5, &left, &left), "");
+    assert_eq!(
+        listing::compare_os2(5, &os2(&[]), &os2(&[(0, 1)])),
+        "0 0 1\n39 absent 0\n40 absent 0\n"
+    );
+}
+
+#[test]
+fn compare_name_lines() {
+    let left = named(&[
+        ((1, 0, 0, 6), b"Ab"),
+        ((3, 1, 1033, 4), b"x"),
+        ((3, 1, 1033, 5), b"y"),
+    ]);
+    let right = named(&[
+        ((3, 1, 1033, 4), b"z"),
+        ((3, 1, 1033, 5), b"y"),
+        ((3, 1, 1033, 6), b"Ab"),
+    ]);
+    assert_eq!(
+        listing::compare_name(&left, &right),
+        "left 1 0 0 6\nboth 3 1 1033 4\nright 3 1 1033 6\n"
+    );
+    assert_eq!(
+        listing::compare_name(&right, &left),
+        "right 1 0 0 6\nboth 3 1 1033 4\nleft 3 1 1033 6\n"
+    );
+    assert_eq!(listing::compare_name(&left, &left), "");
+}
+
+#[test]
+fn compare_refusal_lines() {
+    let fine = os2(&[]);
+    let light = os2(&[(4, 0)]);
+    assert_eq!(listing::compare_os2(6, &light, &[]), "refused 1\n");
+    assert_eq!(
+        listing::compare_os2(5, &light, &[]),
+        "left refused 3 at 1\n"
+    );
+    assert_eq!(listing::compare_os2(5, &[], &light), "left refused 2\n");
+    assert_eq!(listing::compare_os2(5, &fine, &[]), "right refused 2\n");
+    assert_eq!(
+        listing::compare_os2(5, &fine, &light),
+        "right refused 3 at 1\n"
+    );
+
+    let fine = [0, 0, 0, 0, 0, 6];
+    let format_2 = [0, 2, 0, 0, 0, 6];
+    let twice = name0(&[[1, 0, 0, 6, 0, 0]; 2], &[]);
+    assert_eq!(
+        listing::compare_name(&twice, &format_2),
+        "left refused 17 at 1\n"
+    );
+    assert_eq!(
+        listing::compare_name(&format_2, &twice),
+        "left refused 11\n"
+    );
+    assert_eq!(
+        listing::compare_name(&fine, &twice),
+        "right refused 17 at 1\n"
+    );
+    assert_eq!(
+        listing::compare_name(&fine, &format_2),
+        "right refused 11\n"
+    );
+}
+
+#[test]
+fn compare_too_long() {
+    let fine = os2(&[]);
+    let mut longest = os2(&[(4, 401)]);
+    longest.resize(65_536, 0xFF);
+    let mut longer = longest.clone();
+    longer.push(0xFF);
+    let light = os2(&[(4, 0)]);
+    for level in 0..=5 {
+        let of = |left: &[u8], right: &[u8]| listing::compare_os2(level, left, right);
+        assert_eq!(of(&fine, &longest), "2 400 401\n");
+        assert_eq!(of(&longest, &fine), "2 401 400\n");
+        assert_eq!(of(&longer, &fine), "left too long\n");
+        assert_eq!(of(&fine, &longer), "right too long\n");
+        assert_eq!(of(&longer, &longer), "left too long\n");
+        assert_eq!(of(&longer, &light), "left too long\n");
+        assert_eq!(of(&light, &longer), "left refused 3 at 1\n");
+    }
+    assert_eq!(listing::compare_os2(6, &longer, &longer), "refused 1\n");
+
+    let fine = [0, 0, 0, 0, 0, 6];
+    let format_2 = [0, 2, 0, 0, 0, 6];
+    let mut longest = fine.to_vec();
+    longest.resize(65_536, 0xFF);
+    let mut longer = longest.clone();
+    longer.push(0xFF);
+    let of = listing::compare_name;
+    assert_eq!(of(&fine, &longest), "");
+    assert_eq!(of(&longest, &fine), "");
+    assert_eq!(of(&longer, &fine), "left too long\n");
+    assert_eq!(of(&fine, &longer), "right too long\n");
+    assert_eq!(of(&longer, &format_2), "left too long\n");
+    assert_eq!(of(&format_2, &longer), "left refused 11\n");
+    // A table that is too long is not looked into.
+    longer[1] = 2;
+    assert_eq!(of(&longer, &fine), "left too long\n");
+    assert_eq!(of(&fine, &longer), "right too long\n");
+}

@@ -104,6 +104,101 @@ fn wrong_calls() {
     }
 }
 
+/// Writes a file for a test and gives its path.
+fn file(name: &str, bytes: &[u8]) -> String {
+    let path = std::path::Path::new(env!("CARGO_TARGET_TMPDIR")).join(name);
+    std::fs::write(&path, bytes).unwrap();
+    path.to_str().unwrap().to_string()
+}
+
+#[test]
+fn comparisons_follow_one_another() {
+    let old = file("compare_old", &os2(&[(0, 4)]));
+    let new = file("compare_new", &os2_version_5(160, 320));
+    let left = file("compare_left", &named(&[((1, 0, 0, 6), b"Ab")]));
+    let right = file("compare_right", &named(&[((3, 1, 1033, 6), b"Ab")]));
+    let (old, new, left, right) = (&old[..], &new[..], &left[..], &right[..]);
+    let os2_lines = "0 4 5\n46 absent 160\n47 absent 320\n";
+    let name_lines = "left 1 0 0 6\nright 3 1 1033 6\n";
+    assert_eq!(lines(&["compare", "os2", "5", old, new], &[]), os2_lines);
+    assert_eq!(lines(&["compare", "name", left, right], &[]), name_lines);
+    assert_eq!(lines(&["compare", "name", left, left], &[]), "");
+    assert_eq!(
+        lines(
+            &[
+                "compare", "os2", "0", old, new, "name", left, right, "os2", "6", old, new, "name",
+                old, right, "os2", "5", left, right, "os2", "5", old, new, "name", left, left
+            ],
+            &[]
+        ),
+        format!("0 4 5\n{name_lines}refused 1\nleft refused 11\nleft refused 2\n{os2_lines}")
+    );
+    // Levels of any length, with zeros in front too.
+    for level in ["6", "10", "50", "99999999999999999999999999", "4294967296"] {
+        let printed = lines(&["compare", "os2", level, old, new], &[]);
+        assert_eq!(printed, "refused 1\n");
+    }
+    for level in ["5", "05", "0000000000000000000000000005"] {
+        let printed = lines(&["compare", "os2", level, old, new], &[]);
+        assert_eq!(printed, os2_lines);
+    }
+}
+
+#[test]
+fn a_comparison_with_an_unreadable_file() {
+    let old = file("unreadable_old", &os2(&[]));
+    let new = file("unreadable_new", &os2(&[(4, 700)]));
+    let (old, new) = (&old[..], &new[..]);
+    let nothing = std::path::Path::new(env!("CARGO_TARGET_TMPDIR")).join("no such file");
+    let directory = env!("CARGO_TARGET_TMPDIR");
+    for path in [nothing.to_str().unwrap(), directory] {
+        for comparison in [
+            &["os2", "5", path, new][..],
+            &["os2", "5", old, path],
+            &["os2", "6", path, path],
+            &["name", path, new],
+            &["name", old, path],
+        ] {
+            // The comparisons before and after it are printed.
+            let fine = ["os2", "5", old, new];
+            let arguments = [&["compare"], &fine[..], comparison, &fine].concat();
+            let output = run(&arguments, &[]);
+            assert_eq!(output.status.code(), Some(1));
+            assert_eq!(output.stdout, b"2 400 700\n2 400 700\n");
+            assert!(!output.stderr.is_empty());
+        }
+    }
+}
+
+#[test]
+fn wrong_comparisons() {
+    let table = file("wrong_comparisons", &os2(&[]));
+    let table = &table[..];
+    for wrong in [
+        &[][..],
+        &["os2"],
+        &["os2", "5"],
+        &["os2", "5", table],
+        &["name"],
+        &["name", table],
+        &["font", "5", table, table],
+        &["os2", "five", table, table],
+        &["os2", "", table, table],
+        &["os2", "-1", table, table],
+        &["os2", "+5", table, table],
+        &["os2", "5.0", table, table],
+        &["os2", "0x5", table, table],
+        &["os2", "5", table, table, table],
+        &["name", table, table, "and", "name", table, table],
+    ] {
+        let arguments = [&["compare"], wrong].concat();
+        let output = run(&arguments, &[]);
+        assert_eq!(output.status.code(), Some(2), "{arguments:?}");
+        assert!(output.stdout.is_empty());
+        assert!(!output.stderr.is_empty());
+    }
+}
+
 /// The last lines of `writer_rows`: versions 2 and 3 with each setting of
 /// fsType bits 1 to 3, then version 2 with all three, there and back.
 #[test]

@@ -2,7 +2,7 @@
 -- members.
 -- Assumes nothing.
 use Prim.Native.Nat.{ℕ}
-use mathlib.Core.Path.{_≡_, refl}
+use mathlib.Core.Path.{_≡_, refl, subst}
 use mathlib.Core.Bool.{Bool, true, false, cond}
 use mathlib.Core.Option.{Option, none, some}
 use mathlib.Core.List.{List}
@@ -42,6 +42,13 @@ use Rattle.name_words.specs.Words.{textWords, versionWords}
 use Rattle.name_words.proofs.ReadBack.{textSaid, text-back, versionSaid, version-back, number-back}
 use Rattle.os2_words.specs.Words.{membersOf, numberWords, rightsWords, styleWords, opticalWords, writtenWords}
 use Rattle.os2_words.proofs.ReadBack.{saidBy, numberSaid, rightsSaid, styleSaid, sizesIn, opticalSaid, sizes-back, writtenSaid, written-back}
+use Rattle.comparing.specs.declared.Side.{Side}
+use Rattle.comparing.specs.declared.Side.the-variants.{Neither, Left, Right}
+use Rattle.comparing.specs.Comparisons.{on, of, blame}
+use Rattle.name_compare.specs.Comparisons as names
+use Rattle.os2_compare.specs.Comparisons as fields
+use Rattle.compare_words.specs.Words.{comparedWords}
+use Rattle.compare_words.proofs.ReadBack.{comparedSaid, compared-back}
 
 -- ---- the orders: no number is 0
 
@@ -187,3 +194,25 @@ write-said xs r =
 pub rewrite-said : (b : List ℕ) (r : ℕ) → writtenSaid (writtenWords (rewritten b r)) ≡ rewritten b r
 unfolding rewritten unrewritten
 rewrite-said b r = written-back _ _ (both _ _ (judged-numbered _ b) (both _ _ (one _ _ refl) (one _ _ refl)))
+
+-- ---- two tables compared
+
+blame-numbered : (call left right : Option Refusal) (differences numbers : ℕ) → Only Numbered call → Only Numbered left → Only Numbered right →
+    Only (λ b. Numbered (b .refusal)) (blame call left right differences numbers)
+unfolding blame of
+blame-numbered call left right differences numbers p q r =
+    only-then _ _ _ (side Neither call p) (only-then _ _ _ (side Left left q) (only-then _ _ _ (side Right right r) (only-when _ _ _ refl)))
+  where
+    side : (s : Side) (o : Option Refusal) → Only Numbered o → Only (λ b. Numbered (b .refusal)) (of s o)
+    side s none h b e = let z : _≡_ {A = ℕ} 0 1 = cc in absurd (omega arith)
+    side s (some x) h b e = let z : on s x ≡ b = cc in subst (λ y. Numbered (y .refusal)) z (h x refl)
+
+pub name-compare-said : (left right : List ℕ) (numbers : ℕ) → comparedSaid (comparedWords (names.comparedOf left right numbers)) ≡ names.comparedOf left right numbers
+unfolding names.comparedOf names.blameOf
+name-compare-said left right numbers =
+    compared-back _ _ (blame-numbered none (faults left) (faults right) _ numbers (λ r e. let z : _≡_ {A = ℕ} 0 1 = cc in absurd (omega arith)) (faults-numbered left) (faults-numbered right))
+
+pub os2-compare-said : (L : ℕ) (left right : List ℕ) (numbers : ℕ) → comparedSaid (comparedWords (fields.comparedOf L left right numbers)) ≡ fields.comparedOf L left right numbers
+unfolding fields.comparedOf fields.blameOf fields.levelRefusal
+os2-compare-said L left right numbers =
+    compared-back _ _ (blame-numbered (when _ _) (judged L left) (judged L right) _ numbers (one _ _ refl) (judged-numbered L left) (judged-numbered L right))

@@ -1,7 +1,7 @@
-// The reader and the writer for C and Rust: the functions of the static library, each answering in plain numbers.
-// Document 01, whole; `include/gyalvindor.h` says the same to a C programmer.
-// Relies on `name`, `name_lookup` and `name_strings`, on `os2` and `os2_writer`, which answer, and on `name_words` and `os2_words`, which put an answer into
-// words of C.
+// The reader, the comparison and the writer for C and Rust: the functions of the static library, each answering in plain numbers.
+// Document 01, whole, and document 02, Ask 2; `include/gyalvindor.h` says the same to a C programmer.
+// Relies on `name`, `name_lookup` and `name_strings`, on `os2` and `os2_writer`, on `name_compare` and `os2_compare`, which answer, and on `name_words`,
+// `os2_words` and `compare_words`, which put an answer into words of C.
 ghost use mathlib.Core.Path.{_≡_};
 ghost use lib.ListN.{length};
 ghost use Rattle.name_layout.specs.Keys.{keyFrom};
@@ -13,9 +13,15 @@ ghost use Rattle.os2_acceptance.specs.Acceptance.{checked};
 ghost use Rattle.os2_answers.specs.Asking.{ask};
 ghost use Rattle.os2_store.specs.Writing.{write, roomAfter};
 ghost use Rattle.os2_writer.specs.Rewriting.{rewritten, roomRewritten};
+ghost use Rattle.name_compare.specs.Comparisons as names;
+ghost use Rattle.os2_compare.specs.Comparisons as fields;
+ghost use Rattle.compare_words.specs.Words.{comparedWords};
 ghost use Rattle.refusal_words.specs.Words.{outcomeRefusal};
 ghost use Rattle.name_words.specs.Words.{textWords, versionWords};
 ghost use Rattle.os2_words.specs.Words.{numberWords, rightsWords, styleWords, opticalWords, writtenWords};
+use compare_words::GvCompared;
+use compare_words::name_compared_words;
+use compare_words::os2_compared_words;
 use name_words::GvText;
 use name_words::GvVersion;
 use name_words::found_words;
@@ -154,4 +160,25 @@ pub extern "C" fn gv_os2_rewrite(table: &[u8], room: &mut [u8]) -> GvWritten
     ensures { λ r. ⌜ (r ≡ writtenWords (rewritten (now (table .entry)) (length (now (room .entry))))) × (now (room .exit) ≡ roomRewritten (now (table .entry)) (now (room .entry))) ⌝ }
 {
     rewritten_words(os2_writer::rewrite(table, room))
+}
+
+// Lists what differs between two 'OS/2' tables at a level in lent rows.
+#[no_mangle]
+pub extern "C" fn gv_os2_compare(
+    left: &[u8],
+    right: &[u8],
+    level: u32,
+    room: &mut [i64],
+) -> GvCompared
+    ensures { λ r. ⌜ (r ≡ comparedWords (fields.comparedOf level (now (left .entry)) (now (right .entry)) (length (now (room .entry))))) × (now (room .exit) ≡ fields.roomOf level (now (left .entry)) (now (right .entry)) (now (room .entry))) ⌝ }
+{
+    os2_compared_words(os2_compare::compare(left, right, level, room))
+}
+
+// Lists what differs between two 'name' tables in lent rows.
+#[no_mangle]
+pub extern "C" fn gv_name_compare(left: &[u8], right: &[u8], room: &mut [u16]) -> GvCompared
+    ensures { λ r. ⌜ (r ≡ comparedWords (names.comparedOf (now (left .entry)) (now (right .entry)) (length (now (room .entry))))) × (now (room .exit) ≡ names.roomOf (now (left .entry)) (now (right .entry)) (now (room .entry))) ⌝ }
+{
+    name_compared_words(name_compare::compare(left, right, room))
 }

@@ -19,6 +19,8 @@ use name_answers::VersionAnswer;
 
 mod plain;
 
+pub use plain::put_key;
+
 // The first line of an accepted table.
 pub fn head_line(table: &[u8]) -> Line
     requires { ⌜ faults (now table) ≡ none ⌝ }

@@ -44,7 +44,7 @@ pub fn record_line(
 }
 
 // Puts the four parts of a key behind the first `at` bytes, and answers where they end.
-fn put_key(
+pub fn put_key(
     out: &mut [u8],
     at: usize,
     platform: u64,

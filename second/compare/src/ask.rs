@@ -4,6 +4,7 @@ use std::fmt::Display;
 use std::panic::{self, AssertUnwindSafe};
 
 use crate::numbers::Numbers;
+use crate::pair::Marks;
 use crate::question::{shown, Function, Question, Words};
 use crate::raw;
 use crate::sides::{by_crate, by_second};
@@ -40,6 +41,8 @@ pub enum Amount {
 /// The state of the comparison.
 pub struct Asker {
     pub tally: Tally,
+    /// Made at the first comparison of two tables.
+    pub marks: Option<Marks>,
 }
 
 impl Asker {
@@ -47,6 +50,7 @@ impl Asker {
     pub fn new() -> Asker {
         Asker {
             tally: Tally::new(),
+            marks: None,
         }
     }
 
@@ -65,7 +69,8 @@ impl Asker {
         self.counted(&question, function, second, version_and_fs_type(table))
     }
 
-    fn counted(
+    /// Counts a call that all sides answered with these words.
+    pub fn counted(
         &mut self,
         question: &dyn Display,
         function: Function,
@@ -341,7 +346,7 @@ impl Asker {
 const OUT_OF_RANGE: [u32; 7] = [255, 256, 65_535, 65_536, 65_536 + 2, 1 << 31, u32::MAX];
 
 /// The message of a difference between the second program and another side.
-fn differ(
+pub fn differ(
     question: &dyn Display,
     function: Function,
     second: Words,
@@ -413,7 +418,7 @@ fn same_rooms(
 }
 
 /// The 16-bit number at a place, or 0 where the table's bytes don't go so far.
-fn word(table: &[u8], at: usize) -> u32 {
+pub fn word(table: &[u8], at: usize) -> u32 {
     match table.get(at..at + 2) {
         Some(two) => u32::from(u16::from_be_bytes([two[0], two[1]])),
         None => 0,
@@ -421,12 +426,12 @@ fn word(table: &[u8], at: usize) -> u32 {
 }
 
 /// The version and the fsType of an OS/2 table. Of a 'name' table they mean nothing, and nothing is made of them.
-fn version_and_fs_type(table: &[u8]) -> [i64; 2] {
+pub fn version_and_fs_type(table: &[u8]) -> [i64; 2] {
     [0, 8].map(|at| i64::from(word(table, at)))
 }
 
 /// The keys of the records as far as the table's bytes go, accepted or not.
-fn stored_keys(table: &[u8]) -> Vec<[u32; 4]> {
+pub fn stored_keys(table: &[u8]) -> Vec<[u32; 4]> {
     let count = word(table, 2) as usize;
     (0..count)
         .map(|record| 6 + 12 * record)

@@ -2,9 +2,14 @@
 //! and stops at the first difference. The README says what is asked.
 
 mod ask;
+mod cases;
 mod fonts;
 mod make;
+mod met;
 mod numbers;
+mod pair;
+mod pair_sweeps;
+mod partner;
 mod question;
 mod raw;
 mod rows;
@@ -13,6 +18,7 @@ mod sweeps;
 mod tally;
 
 use std::io::{IsTerminal, Write};
+use std::ops::Range;
 use std::path::{Path, PathBuf};
 use std::process::ExitCode;
 use std::time::{Duration, Instant, SystemTime, UNIX_EPOCH};
@@ -24,8 +30,8 @@ use numbers::Numbers;
 use tally::Tally;
 
 const USAGE: &str = "usage: compare [OPTION]... [FOLDER]...
-Compares the archive and the Rust crate over it with the second program on the rows of document 01 and of document 02's Ask 1,
-in sweeps over the places that the rules look at, on tables made at random, and on the fonts under the folders. Without
+Compares the archive and the Rust crate over it with the second program on the rows of document 01 and of document 02's Asks 1
+and 2, in sweeps over the places that the rules look at, on tables made at random, and on the fonts under the folders. Without
 folders: the fonts installed on the machine.
 
   --rows, --sweeps, --random, --fonts
@@ -36,7 +42,9 @@ folders: the fonts installed on the machine.
   --bytes FOLDER  where the bytes of a difference are written (the folder for passing files)
   --name FILE     only: ask everything of the 'name' table in this file
   --os2 FILE      only: ask everything of the 'OS/2' table in this file
-  --numbers FILE  only: write the 48 numbers in this file, one a line";
+  --numbers FILE  only: write the 48 numbers in this file, one a line
+  --compare-name LEFT RIGHT, --compare-os2 LEFT RIGHT
+                  only: compare the two tables in these files";
 
 /// Prints a line. Where nobody reads it, the comparison goes on.
 macro_rules! say {
@@ -49,6 +57,8 @@ macro_rules! say {
 const LONG: u64 = 100_000;
 /// How often each table of a font is damaged.
 const DAMAGED: u64 = 50;
+/// With one of so many 'name' tables made at random, two of 5,460 records are compared.
+const LARGEST: usize = 3_000;
 
 /// What the program is told to do.
 struct Task {
@@ -61,7 +71,7 @@ struct Task {
     first: u64,
     bytes: PathBuf,
     folders: Vec<PathBuf>,
-    single: Option<(String, PathBuf)>,
+    single: Option<(String, Vec<PathBuf>)>,
 }
 
 /// Why the program stops before its end.
@@ -134,7 +144,11 @@ fn parse(arguments: Vec<String>) -> Result<Option<Task>, String> {
             "--bytes" => task.bytes = PathBuf::from(after()?),
             "--name" | "--os2" | "--numbers" => {
                 let file = PathBuf::from(after()?);
-                task.single = Some((argument, file));
+                task.single = Some((argument, vec![file]));
+            }
+            "--compare-name" | "--compare-os2" => {
+                let files = vec![PathBuf::from(after()?), PathBuf::from(after()?)];
+                task.single = Some((argument, files));
             }
             _ if argument.starts_with('-') => return Err(format!("{argument} is no option")),
             _ => task.folders.push(PathBuf::from(argument)),
@@ -149,8 +163,8 @@ fn parse(arguments: Vec<String>) -> Result<Option<Task>, String> {
 fn run(task: &Task) -> Result<(), Stop> {
     let started = Instant::now();
     let mut whole = Tally::new();
-    if let Some((option, file)) = &task.single {
-        whole.add(&single(task, option, file)?);
+    if let Some((option, files)) = &task.single {
+        whole.add(&single(task, option, files)?);
     } else {
         if task.rows {
             whole.add(&document_rows(task)?);
@@ -177,11 +191,18 @@ fn run(task: &Task) -> Result<(), Stop> {
 
 // ---- the parts
 
-fn single(task: &Task, option: &str, file: &Path) -> Result<Tally, Stop> {
-    let bytes = fs::read(file).map_err(|e| Stop::Fault(format!("{}: {e}", file.display())))?;
+/// The file's bytes.
+fn read(file: &Path) -> Result<Vec<u8>, Stop> {
+    fs::read(file).map_err(|e| Stop::Fault(format!("{}: {e}", file.display())))
+}
+
+fn single(task: &Task, option: &str, files: &[PathBuf]) -> Result<Tally, Stop> {
+    let bytes = read(&files[0])?;
     let made = match option {
         "--name" => Made::Name(bytes),
         "--os2" => Made::Os2(bytes),
+        "--compare-name" => Made::NamePair(bytes, read(&files[1])?),
+        "--compare-os2" => Made::Os2Pair(bytes, read(&files[1])?),
         _ => {
             let text = String::from_utf8_lossy(&bytes);
             let numbers: Vec<i64> = text
@@ -197,7 +218,10 @@ fn single(task: &Task, option: &str, file: &Path) -> Result<Tally, Stop> {
         }
     };
     let mut asker = Asker::new();
-    let place = format!("the file {}", file.display());
+    let place = match files {
+        [left, right] => format!("the files {} and {}", left.display(), right.display()),
+        _ => format!("the file {}", files[0].display()),
+    };
     one(
         task,
         &mut asker,
@@ -218,9 +242,17 @@ fn document_rows(task: &Task) -> Result<Tally, Stop> {
             stopped(task, &row.made(), difference, &place)
         })?;
     }
+    let cases = cases::cases();
+    for case in &cases {
+        caught(|| cases::ask(&mut asker, case)).map_err(|difference| {
+            let place = format!("the case of Ask 2 \"{}\"", case.words);
+            stopped(task, &case.made(), difference, &place)
+        })?;
+    }
     say!(
-        "documents 01 and 02: {} rows, {} calls",
+        "documents 01 and 02: {} rows and {} comparisons, {} calls",
         rows.len(),
+        cases.len(),
         asker.tally.calls()
     );
     Ok(asker.tally)
@@ -229,7 +261,7 @@ fn document_rows(task: &Task) -> Result<Tally, Stop> {
 fn sweeps_over(task: &Task) -> Result<Tally, Stop> {
     let mut asker = Asker::new();
     let terminal = io::stderr().is_terminal();
-    for (words, sweep) in sweeps::SWEEPS {
+    for (words, sweep) in sweeps::SWEEPS.into_iter().chain(pair_sweeps::SWEEPS) {
         if terminal {
             eprint!("\r{:60}\rsweep: {words} ", "");
         }
@@ -253,6 +285,7 @@ fn at_random(task: &Task) -> Result<Tally, Stop> {
         task.first + task.count.max(1) - 1
     );
     let mut asker = Asker::new();
+    let mut before = [None, None];
     let mut progress = Progress::new("tables", task.count);
     for done in 0..task.count {
         let number = task.first + done;
@@ -260,6 +293,10 @@ fn at_random(task: &Task) -> Result<Tally, Stop> {
         let made = make::made(number, &mut numbers);
         let place = || format!("table {number} of seed {}", task.seed);
         one_lazily(task, &mut asker, &made, Amount::Some, &mut numbers, &place)?;
+        for (with, pair) in pairs(task, number, &made, &mut before, &mut numbers) {
+            let place = || format!("table {number} of seed {}, {with}", task.seed);
+            one_lazily(task, &mut asker, &pair, Amount::Some, &mut numbers, &place)?;
+        }
         progress.show(done);
     }
     progress.clear();
@@ -274,7 +311,7 @@ fn at_random(task: &Task) -> Result<Tally, Stop> {
     }
     if missing.is_empty() {
         say!(
-            "at random: every refusal, rule, field that does not fit, kind of answer and setting of the rights bits was met"
+            "at random: every refusal, rule, field that does not fit, kind of answer, setting of the rights bits and thing of a comparison was met"
         );
     } else {
         say!(
@@ -283,6 +320,52 @@ fn at_random(task: &Task) -> Result<Tally, Stop> {
         );
     }
     Ok(asker.tally)
+}
+
+/// A table made at random with its number.
+type Numbered = Option<(u64, Vec<u8>)>;
+
+/// The pairs in which a table made at random is compared, and with what: the table and a partner made from it, the table of
+/// its kind before it and the table, and with some tables two of 5,460 records. `before` holds the last 'name' and 'OS/2' table.
+fn pairs(
+    task: &Task,
+    number: u64,
+    made: &Made,
+    before: &mut [Numbered; 2],
+    numbers: &mut Numbers,
+) -> Vec<(&'static str, Made)> {
+    let (bytes, pair, partner, before): (_, fn(_, _) -> Made, _, _) = match made {
+        Made::Name(bytes) => {
+            let partner = partner::name(numbers, bytes);
+            (bytes, Made::NamePair, partner, &mut before[0])
+        }
+        Made::Os2(bytes) => {
+            let partner = partner::os2(numbers, bytes);
+            (bytes, Made::Os2Pair, partner, &mut before[1])
+        }
+        _ => return Vec::new(),
+    };
+    let mut pairs = vec![("compared with its partner", pair(bytes.clone(), partner))];
+    if let Some(number_before) = make::same_kind_before(number) {
+        let other = match before.take() {
+            Some((kept, bytes)) if kept == number_before => bytes,
+            // The first table of the run.
+            _ => match make::made(
+                number_before,
+                &mut Numbers::of_table(task.seed, number_before),
+            ) {
+                Made::Name(bytes) | Made::Os2(bytes) => bytes,
+                _ => Vec::new(),
+            },
+        };
+        pairs.push(("compared with the one before", pair(other, bytes.clone())));
+    }
+    *before = Some((number, bytes.clone()));
+    if matches!(made, Made::Name(_)) && numbers.chance(1, LARGEST) {
+        let (left, right) = partner::largest(numbers);
+        pairs.push(("with two of 5,460 records", Made::NamePair(left, right)));
+    }
+    pairs
 }
 
 fn installed_fonts(task: &Task) -> Result<Tally, Stop> {
@@ -295,12 +378,11 @@ fn installed_fonts(task: &Task) -> Result<Tally, Stop> {
     let mut asker = Asker::new();
     let mut damaged = Asker::new();
     let mut progress = Progress::new("font files", files.len() as u64);
-    let mut faces = 0;
+    let mut faces: Vec<(String, [Option<Vec<u8>>; 2])> = Vec::new();
     let mut without = [0, 0];
     for (done, path) in files.iter().enumerate() {
-        let file = fs::read(path).map_err(|e| Stop::Fault(format!("{}: {e}", path.display())))?;
+        let file = read(path)?;
         for face in 0..second::sfnt::fonts(&file) {
-            faces += 1;
             let name = second::sfnt::table_of(&file, face, *b"name");
             let os2 = second::sfnt::table_of(&file, face, *b"OS/2");
             without[0] += u64::from(name.is_none());
@@ -309,8 +391,12 @@ fn installed_fonts(task: &Task) -> Result<Tally, Stop> {
                 name.map(|bytes| Made::Name(bytes.to_vec())),
                 os2.map(|bytes| Made::Os2(bytes.to_vec())),
             ];
+            let place = format!("font {face} of {}", path.display());
+            faces.push((
+                place.clone(),
+                [name, os2].map(|table| table.map(<[u8]>::to_vec)),
+            ));
             for made in tables.into_iter().flatten() {
-                let place = format!("font {face} of {}", path.display());
                 let mut numbers = Numbers::of_table(task.seed, done as u64);
                 one(
                     task,
@@ -321,16 +407,18 @@ fn installed_fonts(task: &Task) -> Result<Tally, Stop> {
                     &place,
                 )?;
                 for _ in 0..DAMAGED {
-                    let made = damage(&made, &mut numbers);
+                    let (faulty, pair) = damage(&made, &mut numbers);
                     let place = format!("a damaged table of font {face} of {}", path.display());
-                    one(
-                        task,
-                        &mut damaged,
-                        &made,
-                        Amount::Some,
-                        &mut numbers,
-                        &place,
-                    )?;
+                    for made in [faulty, pair] {
+                        one(
+                            task,
+                            &mut damaged,
+                            &made,
+                            Amount::Some,
+                            &mut numbers,
+                            &place,
+                        )?;
+                    }
                 }
             }
         }
@@ -347,9 +435,30 @@ fn installed_fonts(task: &Task) -> Result<Tally, Stop> {
             "no fonts found: {under}. Name a folder that holds fonts"
         )));
     }
+    // Each font with the next, the last with the first.
+    for (place, (words, tables)) in faces.iter().enumerate() {
+        let (next, others) = &faces[(place + 1) % faces.len()];
+        let kinds: [fn(_, _) -> Made; 2] = [Made::NamePair, Made::Os2Pair];
+        for (kind, pair) in kinds.into_iter().enumerate() {
+            if let (Some(left), Some(right)) = (&tables[kind], &others[kind]) {
+                let made = pair(left.clone(), right.clone());
+                let place = format!("{words} compared with {next}");
+                let mut numbers = Numbers::of_table(task.seed, kind as u64);
+                one(
+                    task,
+                    &mut asker,
+                    &made,
+                    Amount::Everything,
+                    &mut numbers,
+                    &place,
+                )?;
+            }
+        }
+    }
     say!(
-        "fonts: {} files, {faces} fonts, of which {} have no name table and {} no OS/2 table",
+        "fonts: {} files, {} fonts, of which {} have no name table and {} no OS/2 table",
         files.len(),
+        faces.len(),
         without[0],
         without[1]
     );
@@ -359,8 +468,8 @@ fn installed_fonts(task: &Task) -> Result<Tally, Stop> {
     Ok(asker.tally)
 }
 
-/// A font's table with one or two faults in its bytes.
-fn damage(made: &Made, numbers: &mut Numbers) -> Made {
+/// A font's table with one or two faults in its bytes, and the pair of the table and that.
+fn damage(made: &Made, numbers: &mut Numbers) -> (Made, Made) {
     let edges = [6, 18, 78, 86, 96, 100];
     let faulty = |bytes: &Vec<u8>, numbers: &mut Numbers| {
         let mut bytes = bytes.clone();
@@ -370,9 +479,17 @@ fn damage(made: &Made, numbers: &mut Numbers) -> Made {
         bytes
     };
     match made {
-        Made::Name(bytes) => Made::Name(faulty(bytes, numbers)),
-        Made::Os2(bytes) => Made::Os2(faulty(bytes, numbers)),
-        Made::Numbers(values) => Made::Numbers(values.clone()),
+        Made::Name(bytes) => {
+            let other = faulty(bytes, numbers);
+            let pair = Made::NamePair(bytes.clone(), other.clone());
+            (Made::Name(other), pair)
+        }
+        Made::Os2(bytes) => {
+            let other = faulty(bytes, numbers);
+            let pair = Made::Os2Pair(bytes.clone(), other.clone());
+            (Made::Os2(other), pair)
+        }
+        _ => unreachable!("a font's table is 'name' or 'OS/2'"),
     }
 }
 
@@ -389,8 +506,29 @@ fn one(
     one_lazily(task, asker, made, amount, numbers, &|| place.to_string())
 }
 
-/// Asks the questions on what was made. A table is lent from the middle of other bytes, which change with the table, so that
-/// a side that reads past an end shows it.
+/// A table in the middle of other bytes, which change with the table, so that a side that reads past an end shows it.
+struct Lent {
+    around: Vec<u8>,
+    place: Range<usize>,
+}
+
+impl Lent {
+    fn new(bytes: &[u8], numbers: &mut Numbers) -> Lent {
+        let before = numbers.below(8);
+        let mut around = numbers.bytes(before);
+        around.extend(bytes);
+        let after = 16 + numbers.below(8);
+        around.extend(numbers.bytes(after));
+        let place = before..before + bytes.len();
+        Lent { around, place }
+    }
+
+    fn bytes(&self) -> &[u8] {
+        &self.around[self.place.clone()]
+    }
+}
+
+/// Asks the questions on what was made. A table is also compared with itself.
 fn one_lazily(
     task: &Task,
     asker: &mut Asker,
@@ -399,59 +537,96 @@ fn one_lazily(
     numbers: &mut Numbers,
     place: &dyn Fn() -> String,
 ) -> Result<(), Stop> {
-    let result = match made {
-        Made::Name(bytes) | Made::Os2(bytes) => {
-            let before = numbers.below(8);
-            let mut around = numbers.bytes(before);
-            around.extend(bytes);
-            let after = 16 + numbers.below(8);
-            around.extend(numbers.bytes(after));
-            let lent = &around[before..before + bytes.len()];
-            let result = caught(|| match made {
-                Made::Name(_) => asker.name(lent, amount, numbers),
-                _ => asker.os2(lent, amount, numbers),
+    let mut lend = |bytes: &Vec<u8>| Lent::new(bytes, numbers);
+    let (result, changed) = match made {
+        Made::Name(bytes) => {
+            let lent = lend(bytes);
+            let table = lent.bytes();
+            let result = caught(|| {
+                asker.name(table, amount, numbers)?;
+                asker.name_pair(table, table, amount, numbers)
             });
-            match result {
-                Ok(()) if lent != bytes => Err(Difference(
-                    "a question changed the table that was lent for reading\n".to_string(),
-                )),
-                result => result,
-            }
+            (result, table != bytes)
         }
-        Made::Numbers(values) => caught(|| asker.numbers(values, amount, numbers)),
+        Made::Os2(bytes) => {
+            let lent = lend(bytes);
+            let table = lent.bytes();
+            let result = caught(|| {
+                asker.os2(table, amount, numbers)?;
+                asker.os2_pair(table, table, amount, numbers)
+            });
+            (result, table != bytes)
+        }
+        Made::Numbers(values) => (caught(|| asker.numbers(values, amount, numbers)), false),
+        Made::NamePair(left, right) => {
+            let lent = [lend(left), lend(right)];
+            let tables = [lent[0].bytes(), lent[1].bytes()];
+            let result = caught(|| asker.name_pair(tables[0], tables[1], amount, numbers));
+            (result, tables != [left, right])
+        }
+        Made::Os2Pair(left, right) => {
+            let lent = [lend(left), lend(right)];
+            let tables = [lent[0].bytes(), lent[1].bytes()];
+            let result = caught(|| asker.os2_pair(tables[0], tables[1], amount, numbers));
+            (result, tables != [left, right])
+        }
+    };
+    let result = match result {
+        Ok(()) if changed => Err(Difference(
+            "a question changed a table that was lent for reading\n".to_string(),
+        )),
+        result => result,
     };
     result.map_err(|difference| stopped(task, made, difference, &place()))
 }
 
-/// Writes the bytes of a difference to a file and gives the whole message.
+/// Writes the bytes of a difference to a file, or to two, and gives the whole message.
 fn stopped(task: &Task, made: &Made, difference: Difference, place: &str) -> Stop {
-    let (title, option, bytes) = match made {
-        Made::Name(bytes) => ("name", "--name", bytes.clone()),
-        Made::Os2(bytes) => ("os2", "--os2", bytes.clone()),
+    let (option, contents) = match made {
+        Made::Name(bytes) => ("--name", vec![("name", bytes.clone())]),
+        Made::Os2(bytes) => ("--os2", vec![("os2", bytes.clone())]),
         Made::Numbers(values) => {
             let lines: String = values.iter().map(|value| format!("{value}\n")).collect();
-            ("numbers", "--numbers", lines.into_bytes())
+            ("--numbers", vec![("numbers", lines.into_bytes())])
         }
-    };
-    let file = task
-        .bytes
-        .join(format!("compare-{title}-{}", process::id()));
-    let kept = match fs::write(&file, &bytes) {
-        Ok(()) => format!(
-            "  The {} are in {path}\n  Ask again: compare {option} {path}\n",
-            if title == "numbers" {
-                "48 numbers"
-            } else {
-                "table's bytes"
-            },
-            path = file.display()
+        Made::NamePair(left, right) => (
+            "--compare-name",
+            vec![("left", left.clone()), ("right", right.clone())],
         ),
-        Err(e) => format!(
-            "  The bytes can't be written to {}: {e}\n  They are: {bytes:02X?}\n",
-            file.display()
+        Made::Os2Pair(left, right) => (
+            "--compare-os2",
+            vec![("left", left.clone()), ("right", right.clone())],
         ),
     };
-    Stop::Difference(format!("on {place}\n{}{kept}", difference.0))
+    let mut kept = String::new();
+    let mut again = format!("  Ask again: compare {option}");
+    for (title, bytes) in contents {
+        let file = task
+            .bytes
+            .join(format!("compare-{title}-{}", process::id()));
+        let what = match title {
+            "numbers" => "48 numbers",
+            "left" | "right" => &format!("{title} table's bytes"),
+            _ => "table's bytes",
+        };
+        match fs::write(&file, &bytes) {
+            Ok(()) => kept.push_str(&format!("  The {what} are in {}\n", file.display())),
+            Err(e) => {
+                kept.push_str(&format!(
+                    "  The {what} can't be written to {}: {e}\n  They are: {bytes:02X?}\n",
+                    file.display()
+                ));
+                again.clear();
+            }
+        }
+        if !again.is_empty() {
+            again.push_str(&format!(" {}", file.display()));
+        }
+    }
+    if !again.is_empty() {
+        again.push('\n');
+    }
+    Stop::Difference(format!("on {place}\n{}{kept}{again}", difference.0))
 }
 
 // ---- progress

@@ -1,17 +1,20 @@
 //! Makes tables at random: valid ones, ones with a fault at an edge, ones cut short.
 //!
-//! The makers know the rules of document 01 and of document 02's Ask 1 only to come near their edges. Whether a table is right
-//! is for the compared programs.
+//! The makers know the rules of document 01 and of document 02's Asks 1 and 2 only to come near their edges. Whether a table is
+//! right is for the compared programs.
 
 use second::os2::{size, FIELDS};
 
 use crate::numbers::Numbers;
 
-/// What is made: a table, or 48 numbers to write.
+/// What is made: a table, 48 numbers to write, or two tables to compare.
+#[derive(Clone)]
 pub enum Made {
     Name(Vec<u8>),
     Os2(Vec<u8>),
     Numbers(Box<[i64; 48]>),
+    NamePair(Vec<u8>, Vec<u8>),
+    Os2Pair(Vec<u8>, Vec<u8>),
 }
 
 /// Table `number` of a run: of ten, five are 'name' tables, three 'OS/2' tables, two are 48 numbers.
@@ -20,6 +23,14 @@ pub fn made(number: u64, numbers: &mut Numbers) -> Made {
         0 | 2 | 4 | 6 | 8 => Made::Name(name(numbers)),
         1 | 5 | 9 => Made::Os2(os2(numbers)),
         _ => Made::Numbers(Box::new(values_to_write(numbers))),
+    }
+}
+
+/// The number of the 'name' or 'OS/2' table before this one that is of the same kind.
+pub fn same_kind_before(number: u64) -> Option<u64> {
+    match number % 10 {
+        5 | 9 => number.checked_sub(4),
+        _ => number.checked_sub(2),
     }
 }
 
@@ -629,7 +640,7 @@ pub fn range(field: usize) -> (i64, i64) {
 }
 
 /// Values that keep all rules in this version.
-fn valid_values(n: &mut Numbers, version: i64) -> [i64; 48] {
+pub fn valid_values(n: &mut Numbers, version: i64) -> [i64; 48] {
     let mut values = [0; 48];
     for (field, value) in values.iter_mut().enumerate() {
         let (lowest, highest) = range(field);
@@ -701,7 +712,7 @@ fn break_rule(n: &mut Numbers, values: &mut [i64; 48]) {
 }
 
 /// The bytes of all 48 fields.
-fn encoded(values: &[i64; 48]) -> Vec<u8> {
+pub fn encoded(values: &[i64; 48]) -> Vec<u8> {
     let mut bytes = vec![0; 100];
     for (field, value) in FIELDS.iter().zip(values) {
         let eight = value.to_be_bytes();

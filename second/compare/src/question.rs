@@ -1,4 +1,4 @@
-//! The questions on a table, and the words of an answer.
+//! The questions on a table or on two, and the words of an answer.
 
 use std::fmt;
 
@@ -23,8 +23,8 @@ pub enum Question {
     OpticalSizes(u32),
 }
 
-/// Which of the fourteen functions a call is of.
-#[derive(Clone, Copy, Debug, PartialEq, Eq)]
+/// Which of the sixteen functions a call is of.
+#[derive(Clone, Copy, Debug, PartialEq, Eq, PartialOrd, Ord)]
 pub enum Function {
     NameCheck,
     Lookup,
@@ -40,10 +40,12 @@ pub enum Function {
     OpticalSizes,
     Write,
     Rewrite,
+    Os2Compare,
+    NameCompare,
 }
 
 /// The functions in the order of the header.
-pub const FUNCTIONS: [Function; 14] = [
+pub const FUNCTIONS: [Function; 16] = [
     Function::NameCheck,
     Function::Lookup,
     Function::PostScript,
@@ -58,6 +60,8 @@ pub const FUNCTIONS: [Function; 14] = [
     Function::OpticalSizes,
     Function::Write,
     Function::Rewrite,
+    Function::Os2Compare,
+    Function::NameCompare,
 ];
 
 impl Function {
@@ -78,6 +82,8 @@ impl Function {
             Function::OpticalSizes => "optical sizes",
             Function::Write => "write",
             Function::Rewrite => "rewrite",
+            Function::Os2Compare => "OS/2 compare",
+            Function::NameCompare => "name compare",
         }
     }
 
@@ -95,10 +101,11 @@ impl Function {
             Function::StylePosition => &["kind", "weight bits", "width bits"],
             Function::OpticalSizes => &["kind", "sizes", "lower bits", "upper bits"],
             Function::Write | Function::Rewrite => &["size"],
+            Function::Os2Compare | Function::NameCompare => &["side", "rows"],
         }
     }
 
-    /// The refusals that document 01 lets the function give.
+    /// The refusals that the papers let the function give.
     pub fn refusals(self) -> &'static [u64] {
         match self {
             Function::NameCheck => &[10, 11, 12, 13, 14, 15, 16, 17, 18],
@@ -113,6 +120,8 @@ impl Function {
             | Function::OpticalSizes => &[1, 2, 3],
             Function::Write => &[3, 4, 5, 8],
             Function::Rewrite => &[2, 3, 4, 5],
+            Function::Os2Compare => &[1, 2, 3, 29],
+            Function::NameCompare => &[10, 11, 12, 13, 14, 15, 16, 17, 18, 29],
         }
     }
 

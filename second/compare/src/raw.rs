@@ -61,6 +61,13 @@ struct Written {
     size: usize,
 }
 
+#[repr(C)]
+struct Compared {
+    refusal: Refusal,
+    side: u32,
+    rows: usize,
+}
+
 extern "C" {
     fn gv_name_check(table: *const u8, length: usize) -> Refusal;
     fn gv_name_lookup(table: *const u8, length: usize, p: u32, e: u32, l: u32, n: u32) -> Text;
@@ -76,6 +83,23 @@ extern "C" {
     fn gv_os2_optical_sizes(table: *const u8, length: usize, level: u32) -> Optical;
     fn gv_os2_write(numbers: *const i64, room: *mut u8, length: usize) -> Written;
     fn gv_os2_rewrite(table: *const u8, size: usize, room: *mut u8, length: usize) -> Written;
+    fn gv_os2_compare(
+        left: *const u8,
+        left_length: usize,
+        right: *const u8,
+        right_length: usize,
+        level: u32,
+        room: *mut i64,
+        numbers: usize,
+    ) -> Compared;
+    fn gv_name_compare(
+        left: *const u8,
+        left_length: usize,
+        right: *const u8,
+        right_length: usize,
+        room: *mut u16,
+        numbers: usize,
+    ) -> Compared;
 }
 
 /// The words of an answer that has only a refusal.
@@ -170,4 +194,40 @@ pub fn rewrite(table: &[u8], room: &mut [u8]) -> Words {
     // do not overlap; no pointer is null.
     let w = unsafe { gv_os2_rewrite(table.as_ptr(), table.len(), room.as_mut_ptr(), room.len()) };
     with(w.refusal, [w.size as u64, 0, 0, 0])
+}
+
+fn compared(c: Compared) -> Words {
+    with(c.refusal, [u64::from(c.side), c.rows as u64, 0, 0])
+}
+
+/// The words that the archive answers to a comparison of two OS/2 tables.
+pub fn os2_compare(level: u32, left: &[u8], right: &[u8], room: &mut [i64]) -> Words {
+    // SAFETY: each table lends `len()` readable bytes, the room `len()` writable numbers that nothing else refers to, so it
+    // does not overlap the tables; no pointer is null, and any level may be given.
+    compared(unsafe {
+        gv_os2_compare(
+            left.as_ptr(),
+            left.len(),
+            right.as_ptr(),
+            right.len(),
+            level,
+            room.as_mut_ptr(),
+            room.len(),
+        )
+    })
+}
+
+/// The words that the archive answers to a comparison of two 'name' tables.
+pub fn name_compare(left: &[u8], right: &[u8], room: &mut [u16]) -> Words {
+    // SAFETY: as above.
+    compared(unsafe {
+        gv_name_compare(
+            left.as_ptr(),
+            left.len(),
+            right.as_ptr(),
+            right.len(),
+            room.as_mut_ptr(),
+            room.len(),
+        )
+    })
 }

@@ -1,5 +1,5 @@
-//! The papers' rows: document 01's "Examples to check against" and "Easy slips", each with the answer that stands there, and
-//! rows of document 02's Ask 1, each with the answers that follow from its words.
+//! The papers' rows on one table: document 01's "Examples to check against" and "Easy slips", each with the answer that stands
+//! there, and rows of document 02's Ask 1, each with the answers that follow from its words.
 
 use crate::ask::{Amount, Asker, Difference};
 use crate::make::Made;
@@ -26,7 +26,7 @@ impl Row {
     }
 }
 
-/// Asks everything of one row's table, after the answers that the papers give.
+/// Asks everything of one row's table, after the answers that the papers give, and compares it with itself.
 pub fn ask(asker: &mut Asker, row: &Row) -> Result<(), Difference> {
     for &(question, expected) in &row.answers {
         let words = asker.ask(&row.table, question)?;
@@ -41,19 +41,25 @@ pub fn ask(asker: &mut Asker, row: &Row) -> Result<(), Difference> {
     }
     let mut numbers = Numbers::new(1);
     match row.made() {
-        Made::Name(table) => asker.name(&table, Amount::Everything, &mut numbers),
-        Made::Os2(table) => asker.os2(&table, Amount::Everything, &mut numbers),
-        Made::Numbers(values) => asker.numbers(&values, Amount::Everything, &mut numbers),
+        Made::Name(table) => {
+            asker.name(&table, Amount::Everything, &mut numbers)?;
+            asker.name_pair(&table, &table, Amount::Everything, &mut numbers)
+        }
+        Made::Os2(table) => {
+            asker.os2(&table, Amount::Everything, &mut numbers)?;
+            asker.os2_pair(&table, &table, Amount::Everything, &mut numbers)
+        }
+        _ => unreachable!("a row's table is 'name' or 'OS/2'"),
     }
 }
 
 const ACCEPTED: Words = [0; 7];
 
-fn refused(number: u64) -> Words {
+pub fn refused(number: u64) -> Words {
     [number, 0, 0, 0, 0, 0, 0]
 }
 
-fn refused_at(number: u64, place: u64) -> Words {
+pub fn refused_at(number: u64, place: u64) -> Words {
     [number, 1, place, 0, 0, 0, 0]
 }
 
@@ -74,7 +80,7 @@ const ABSENT: Words = [0, 0, 0, 2, 0, 0, 0];
 const NOT_KNOWN: Words = [0, 0, 0, 3, 0, 0, 0];
 
 /// An OS/2 table of zero bytes but weight 400, width 5 and these 16-bit numbers, given by their offsets.
-fn os2(version: u8, size: usize, numbers: &[(usize, u16)]) -> Vec<u8> {
+pub fn os2(version: u8, size: usize, numbers: &[(usize, u16)]) -> Vec<u8> {
     let mut table = vec![0; size];
     table[1] = version;
     for &(offset, number) in [(4, 400), (6, 5)].iter().chain(numbers) {
@@ -87,7 +93,7 @@ const FS_TYPE: usize = 8;
 const FS_SELECTION: usize = 62;
 
 /// A format 0 'name' table: records of platform, encoding, language, name, length, offset; then the storage.
-fn name(records: &[[u16; 6]], storage: &[u8]) -> Vec<u8> {
+pub fn name(records: &[[u16; 6]], storage: &[u8]) -> Vec<u8> {
     let count = records.len() as u16;
     let head = [0, count, 6 + 12 * count];
     let words = head.iter().chain(records.iter().flatten());

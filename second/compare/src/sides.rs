@@ -1,4 +1,4 @@
-//! The answers of the second program and of the Rust crate, put in the words that document 01 and the header make of them.
+//! The answers of the second program and of the Rust crate, put in the words that the papers and the header make of them.
 
 use crate::question::{Question, Words};
 
@@ -17,6 +17,17 @@ fn given(members: [u64; 4]) -> Words {
     [0, 0, 0, a, b, c, d]
 }
 
+/// The words of a comparison: how many rows it wrote, or its refusal with the side (1 left, 2 right, 0 neither).
+fn compared(result: Result<usize, (u64, Words)>) -> Words {
+    match result {
+        Ok(rows) => given([0, rows as u64, 0, 0]),
+        Err((side, mut refused)) => {
+            refused[3] = side;
+            refused
+        }
+    }
+}
+
 const VALUE: u64 = 1;
 const ABSENT: [u64; 4] = [2, 0, 0, 0];
 const NOT_KNOWN: [u64; 4] = [3, 0, 0, 0];
@@ -28,6 +39,7 @@ fn float(value: f32) -> u64 {
 /// What the second program answers.
 pub mod by_second {
     use super::*;
+    use second::compare::{self, Refused, Side};
     use second::os2::{Answer, OpticalSizes, Rights, StylePosition};
     use second::{name, os2, Refusal};
 
@@ -103,13 +115,33 @@ pub mod by_second {
     pub fn rewrite(table: &[u8], room: &mut [u8]) -> Words {
         of(os2::rewrite(table, room), |size| [size as u64, 0, 0, 0])
     }
+
+    fn with_side(refused: Refused) -> (u64, Words) {
+        let side = match refused.side {
+            None => 0,
+            Some(Side::Left) => 1,
+            Some(Side::Right) => 2,
+        };
+        let refusal = of(Err::<(), _>(refused.refusal), |()| [0; 4]);
+        (side, refusal)
+    }
+
+    /// The words that the second program's comparison of two OS/2 tables makes.
+    pub fn os2_compare(level: u32, left: &[u8], right: &[u8], room: &mut [i64]) -> Words {
+        compared(compare::os2(level, left, right, room).map_err(with_side))
+    }
+
+    /// The words that the second program's comparison of two 'name' tables makes.
+    pub fn name_compare(left: &[u8], right: &[u8], room: &mut [u16]) -> Words {
+        compared(compare::name(left, right, room).map_err(with_side))
+    }
 }
 
 /// What the Rust crate over the archive answers.
 pub mod by_crate {
     use super::*;
     use gyalvindor::os2::{OpticalSizes, Rights, StylePosition};
-    use gyalvindor::{name, os2, Answer, Refusal};
+    use gyalvindor::{name, os2, Answer, CompareRefusal, Refusal, Side};
 
     fn of<T>(result: Result<T, Refusal>, members: impl FnOnce(T) -> [u64; 4]) -> Words {
         match result {
@@ -184,5 +216,90 @@ pub mod by_crate {
     /// The words that the crate's rewriting makes.
     pub fn rewrite(table: &[u8], room: &mut [u8]) -> Words {
         of(os2::rewrite(table, room), |size| [size as u64, 0, 0, 0])
+    }
+
+    fn with_side(refused: CompareRefusal) -> (u64, Words) {
+        let side = match refused.side {
+            None => 0,
+            Some(Side::Left) => 1,
+            Some(Side::Right) => 2,
+        };
+        let refusal = of(Err::<(), _>(refused.refusal), |()| [0; 4]);
+        (side, refusal)
+    }
+
+    /// The words that the crate's comparison of two OS/2 tables makes. The rows that it gives have to be the first of those
+    /// that were lent.
+    pub fn os2_compare(
+        level: u32,
+        left: &[u8],
+        right: &[u8],
+        rows: &mut [os2::Difference],
+    ) -> Words {
+        let first = rows.as_ptr();
+        let result = os2::compare(left, right, level, rows).map(|given| {
+            assert_eq!(given.as_ptr(), first, "the crate's rows are not the lent");
+            given.len()
+        });
+        compared(result.map_err(with_side))
+    }
+
+    /// The words that the crate's comparison of two 'name' tables makes. The rows that it gives have to be the first of those
+    /// that were lent.
+    pub fn name_compare(left: &[u8], right: &[u8], rows: &mut [name::Difference]) -> Words {
+        let first = rows.as_ptr();
+        let result = name::compare(left, right, rows).map(|given| {
+            assert_eq!(given.as_ptr(), first, "the crate's rows are not the lent");
+            given.len()
+        });
+        compared(result.map_err(with_side))
+    }
+
+    /// The five numbers of a row for two OS/2 tables, as far as the crate tells them.
+    pub fn os2_row(row: &os2::Difference) -> [i64; 5] {
+        let told = |answer: Answer<i64>| match answer {
+            Answer::Value(value) => [1, value],
+            Answer::Absent => [2, 0],
+            Answer::NotKnown => [3, 0],
+        };
+        let [left_kind, left_value] = told(row.left());
+        let [right_kind, right_value] = told(row.right());
+        let field = i64::from(row.field());
+        [field, left_kind, left_value, right_kind, right_value]
+    }
+
+    /// The five numbers of a row for two 'name' tables, as far as the crate tells them.
+    pub fn name_row(row: &name::Difference) -> [i64; 5] {
+        let [platform, encoding, language, name] = row.key().map(i64::from);
+        let which = match row.which() {
+            None => 0,
+            Some(name::Which::OnlyLeft) => 1,
+            Some(name::Which::OnlyRight) => 2,
+            Some(name::Which::OtherBytes) => 3,
+        };
+        [platform, encoding, language, name, which]
+    }
+
+    /// Rows of 48 fields to fill a room with. A row can't be made by hand, so these are written by a comparison of two tables
+    /// that differ in every field; where that gives none, a row to make room with stands for them.
+    pub fn os2_marks() -> Vec<os2::Difference> {
+        let count = os2::FIELD_COUNT;
+        let mut marks = vec![os2::Difference::ROOM; 1 + count + 1];
+        let room = &mut marks[1..=count];
+        let _ = os2::compare(&[0x6B; 100], &[0xC4; 100], os2::NEWEST, room);
+        marks[1..=count].to_vec()
+    }
+
+    /// As above, for two 'name' tables; only their fifth number can't be made by hand.
+    pub fn name_marks() -> Vec<name::Difference> {
+        let mark = |place: u16| {
+            let mut row = name::Difference::ROOM;
+            row.platform = 40_503_u16.wrapping_mul(place + 1);
+            row.encoding = 40_503_u16.wrapping_mul(place + 101);
+            row.language = 40_503_u16.wrapping_mul(place + 201);
+            row.name = 40_503_u16.wrapping_mul(place + 301);
+            row
+        };
+        (0..48).map(mark).collect()
     }
 }

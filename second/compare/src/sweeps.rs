@@ -38,21 +38,16 @@ fn ask(asker: &mut Asker, sweep: &str, made: &Made, questions: &[Question]) -> R
     .map_err(|difference| found(difference, made, sweep))
 }
 
-fn found(difference: Difference, made: &Made, sweep: &str) -> Found {
-    let made = match made {
-        Made::Name(bytes) => Made::Name(bytes.clone()),
-        Made::Os2(bytes) => Made::Os2(bytes.clone()),
-        Made::Numbers(values) => Made::Numbers(values.clone()),
-    };
+pub fn found(difference: Difference, made: &Made, sweep: &str) -> Found {
     Found {
         difference,
-        made,
+        made: made.clone(),
         sweep: sweep.to_string(),
     }
 }
 
 /// The bytes of a table that is given as 16-bit numbers, and more bytes after them.
-fn table(words: &[u16], after: &[u8]) -> Vec<u8> {
+pub fn table(words: &[u16], after: &[u8]) -> Vec<u8> {
     let mut bytes: Vec<u8> = words.iter().flat_map(|word| word.to_be_bytes()).collect();
     bytes.extend(after);
     bytes
@@ -87,7 +82,7 @@ fn put(made: &mut Made, place: usize, two: [u8; 2]) {
 }
 
 /// Format 0, both PostScript records and both version records.
-fn name_0() -> Vec<u8> {
+pub fn name_0() -> Vec<u8> {
     let words = [
         [0, 4, 54].as_slice(),
         &[1, 0, 0, 5, 3, 0],
@@ -100,7 +95,7 @@ fn name_0() -> Vec<u8> {
 }
 
 /// Format 1, two records that refer to tags, three tags.
-fn name_1() -> Vec<u8> {
+pub fn name_1() -> Vec<u8> {
     let words = [
         [1, 3, 56].as_slice(),
         &[0, 0, 0x8000, 1, 1, 0],
@@ -158,7 +153,7 @@ fn name(asker: &mut Asker) -> Result<(), Found> {
 }
 
 /// A table of zero bytes but weight 400 and width 5; in version 5, sizes 0 and 65,535.
-fn os2_of(version: u16) -> Vec<u8> {
+pub fn os2_of(version: u16) -> Vec<u8> {
     let mut bytes = vec![0; size(u32::from(version))];
     bytes[..2].copy_from_slice(&version.to_be_bytes());
     bytes[4..8].copy_from_slice(&[1, 144, 0, 5]);

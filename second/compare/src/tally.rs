@@ -2,10 +2,11 @@
 
 use std::fmt::Write;
 
+use crate::met::{self, Met, Thing};
 use crate::question::{Function, Words, FUNCTIONS};
 
 /// One more than the highest refusal number.
-const NUMBERS: usize = 26;
+const NUMBERS: usize = 30;
 /// The bits of the nine width percents.
 const WIDTHS: [f32; 9] = [50.0, 62.5, 75.0, 87.5, 100.0, 112.5, 125.0, 150.0, 200.0];
 /// The settings of fsType bits 1 to 3 with two or three of them.
@@ -30,7 +31,7 @@ struct Row {
 /// The counts of a run or of a part of it.
 #[derive(Clone, Default)]
 pub struct Tally {
-    rows: [Row; 14],
+    rows: [Row; 16],
     /// By the rule that refusal 3 carries.
     rules: [u64; 8],
     /// By the field that refusal 8 carries.
@@ -47,6 +48,10 @@ pub struct Tally {
     pub os2s: [u64; 3],
     /// Sets of 48 numbers to write, and those written.
     pub writes: [u64; 2],
+    /// Pairs of 'name' tables, and pairs of 'OS/2' tables at a level.
+    pub pairs: [u64; 2],
+    /// What the comparisons of two tables met.
+    pub met: Met,
 }
 
 impl Tally {
@@ -59,7 +64,7 @@ impl Tally {
     }
 
     /// Counts one call that all sides answered with these words, on an OS/2 table or on 48 numbers with this version and this
-    /// fsType. It fails for words that the papers have no place for.
+    /// fsType; of two tables, the refused one's. It fails for words that the papers have no place for.
     pub fn count(
         &mut self,
         function: Function,
@@ -71,7 +76,7 @@ impl Tally {
         let number = words[0];
         if number != 0 && !function.refusals().contains(&number) {
             return Err(format!(
-                "document 01 knows no refusal {number} for this question"
+                "the papers know no refusal {number} for this question"
             ));
         }
         row.numbers[number as usize] += 1;
@@ -160,6 +165,8 @@ impl Tally {
         each(&mut self.names, &other.names);
         each(&mut self.os2s, &other.os2s);
         each(&mut self.writes, &other.writes);
+        each(&mut self.pairs, &other.pairs);
+        self.met.add_all(&other.met);
     }
 
     /// How many calls were compared.
@@ -170,14 +177,16 @@ impl Tally {
     /// One line on the tables.
     pub fn tables(&self) -> String {
         format!(
-            "{} name tables ({} accepted), {} OS/2 tables ({} accepted at level 5, {} at some level), {} sets of 48 numbers ({} written)",
+            "{} name tables ({} accepted), {} OS/2 tables ({} accepted at level 5, {} at some level), {} sets of 48 numbers ({} written), {} pairs of name tables, {} pairs of OS/2 tables at a level",
             self.names[0],
             self.names[1],
             self.os2s[0],
             self.os2s[1],
             self.os2s[2],
             self.writes[0],
-            self.writes[1]
+            self.writes[1],
+            self.pairs[0],
+            self.pairs[1]
         )
     }
 
@@ -253,6 +262,33 @@ impl Tally {
             .map(|(width, count)| format!("{width}: {count}"))
             .collect();
         let _ = writeln!(lines, "  width percents: {}", widths.join(", "));
+        let mut fields = [0; 48];
+        for (field, count) in fields.iter_mut().enumerate() {
+            *count = self.met.times(Thing::Field(field as u32));
+        }
+        let _ = writeln!(
+            lines,
+            "  fields listed by comparisons: {}",
+            list(&fields, 0)
+        );
+        let _ = writeln!(
+            lines,
+            "  keys listed by comparisons: only left {}, only right {}, other bytes {}",
+            self.met.times(Thing::Which(1)),
+            self.met.times(Thing::Which(2)),
+            self.met.times(Thing::Which(3))
+        );
+        let rarest = met::all()
+            .into_iter()
+            .min_by_key(|&thing| self.met.times(thing));
+        if let Some(thing) = rarest {
+            let _ = writeln!(
+                lines,
+                "  of {} things that comparisons are to meet, the rarest was met {} times: {thing}",
+                met::all().len(),
+                self.met.times(thing)
+            );
+        }
         lines
     }
 
@@ -329,6 +365,9 @@ impl Tally {
         }
         for (place, width) in WIDTHS.iter().enumerate() {
             need(self.widths[place], format!("width {width} percent"));
+        }
+        for thing in met::all() {
+            need(self.met.times(thing), thing.to_string());
         }
         missing
     }

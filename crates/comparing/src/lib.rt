@@ -1,0 +1,31 @@
+// What the two comparisons of tables share: which side a refusal is about, the list of what differs, and the rows that hold it.
+// Document 02, Ask 2. It relies on `outcomes` for a refusal.
+ghost use mathlib.Core.Path.{_≡_};
+ghost use Rattle.outcomes.specs.Outcomes.{refusalOf};
+ghost use Rattle.comparing.specs.Comparisons.{on, blamedOf};
+use outcomes::Told;
+
+// The numbers of a row.
+pub const ROW_SIZE: usize = 5;
+
+// Which of the two tables a refusal is about.
+pub enum Side {
+    // The call as a whole.
+    Neither,
+    Left,
+    Right,
+}
+
+// A refusal with its side.
+pub struct Blame {
+    pub side: Side,
+    pub told: Told,
+}
+
+impl Blame {
+    pub fn new(side: Side, told: Told) -> Blame
+        ensures { λ r. ⌜ blamedOf r ≡ on side (refusalOf told) ⌝ }
+    {
+        Blame { side, told }
+    }
+}

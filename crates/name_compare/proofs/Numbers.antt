@@ -1,0 +1,47 @@
+-- The refusals of a comparison, each with its side, its number and what it carries, and rows of differences, written out: by computing.
+-- Assumes nothing.
+use mathlib.Core.Path.{_≡_, refl}
+use mathlib.Core.Option.{none, some}
+use mathlib.Core.List.{List, [], _∷_, map}
+use Rattle.name.specs.declared.Refusal.the-variants.{TooShort, UnknownFormat, RecordsPastEnd, TagsPastEnd, StorageMisplaced}
+use Rattle.name.specs.declared.Refusal.the-variants.{RecordString, TagString, KeyNotAbove, LanguageRefused}
+use Rattle.outcomes.specs.Outcomes.{bare, carrying}
+use Rattle.name_layout.specs.Keys.{keyFrom}
+use Rattle.comparing.specs.declared.Side.the-variants as Side·
+use Rattle.comparing.specs.Comparisons.{listed, refused}
+use Rattle.name_compare.specs.declared.Refusal.{Refusal}
+use Rattle.name_compare.specs.declared.Refusal.the-variants.{Left, Right, TooManyDifferences}
+use Rattle.name_compare.specs.Differences.{Difference, onlyLeft, onlyRight, otherBytes, keyNumbered, rowOf}
+use Rattle.name_compare.specs.declared.Compared.the-variants.{Listed, Refused}
+use Rattle.name_compare.specs.Comparisons.{saidRefusal, saidCompared}
+
+abbrev refusals : List Refusal
+refusals =
+    Left TooShort ∷ Right UnknownFormat ∷ Left RecordsPastEnd ∷ Right TagsPastEnd ∷ Left StorageMisplaced ∷ Right (RecordString 21) ∷ Left (TagString 22)
+    ∷ Right (KeyNotAbove 23) ∷ Left (LanguageRefused 24) ∷ TooManyDifferences ∷ []
+
+pub sides : map (λ r. saidRefusal r .side) refusals
+    ≡ Side·.Left ∷ Side·.Right ∷ Side·.Left ∷ Side·.Right ∷ Side·.Left ∷ Side·.Right ∷ Side·.Left ∷ Side·.Right ∷ Side·.Left ∷ Side·.Neither ∷ []
+sides = refl
+
+pub numbers : map (λ r. saidRefusal r .refusal .number) refusals ≡ 10 ∷ 11 ∷ 12 ∷ 13 ∷ 14 ∷ 15 ∷ 16 ∷ 17 ∷ 18 ∷ 29 ∷ []
+numbers = refl
+
+pub carries : map (λ r. saidRefusal r .refusal .carried) refusals
+    ≡ none ∷ none ∷ none ∷ none ∷ none ∷ some 21 ∷ some 22 ∷ some 23 ∷ some 24 ∷ none ∷ []
+carries = refl
+
+pub answers : map saidCompared (Listed 7 ∷ Refused (Left (KeyNotAbove 1)) ∷ Refused (Right UnknownFormat) ∷ Refused TooManyDifferences ∷ [])
+    ≡ listed 7 ∷ refused Side·.Left (carrying 17 1) ∷ refused Side·.Right (bare 11) ∷ refused Side·.Neither (bare 29) ∷ []
+answers = refl
+
+abbrev differing : List Difference
+differing =
+    record { key = keyFrom 1 2 3 4; which = onlyLeft }
+    ∷ record { key = keyFrom 65535 1 1033 65534; which = onlyRight }
+    ∷ record { key = keyNumbered 281483566841860; which = otherBytes }
+    ∷ []
+
+pub rows : map rowOf differing ≡ (1 ∷ 2 ∷ 3 ∷ 4 ∷ 1 ∷ []) ∷ (65535 ∷ 1 ∷ 1033 ∷ 65534 ∷ 2 ∷ []) ∷ (1 ∷ 2 ∷ 3 ∷ 4 ∷ 3 ∷ []) ∷ []
+unfolding rowOf keyNumbered
+rows = refl

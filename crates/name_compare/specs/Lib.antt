@@ -1,0 +1,4 @@
+pub mod Differences
+pub mod Comparisons
+pub mod Settled
+pub mod Steps

@@ -1,0 +1,5 @@
+pub mod Differences
+pub mod Comparisons
+pub mod Settled
+pub mod Steps
+pub mod Examples
