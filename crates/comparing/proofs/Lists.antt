@@ -10,7 +10,7 @@ use native.Mathlib.Nat.{not-suc-le-zero}
 use native.Mathlib.Decide.{decLt, ℕ-discrete}
 use native.Mathlib.Omega.{arith}
 use lib.ListN.{length, length-append}
-use Rattle.comparing.specs.Lists.{entryOf, listBelow, Rising, rising-none, rising-more}
+use Rattle.comparing.specs.Lists.{entryOf, listBelow, Rising, rising-none, rising-more, ListOf}
 
 module _ {A : Type 0} where
   pub no-entry : {o : Option A} → o ≡ none → entryOf o ≡ []
@@ -129,3 +129,8 @@ module _ {A : Type 0} {Below : A → A → Type 0} where
         let e : x ≡ y = same-head g k (h x .0 (List·Memᴰ·head refl)) (h y .1 (List·Memᴰ·head refl)) in
         let t : xs ≡ ys = one-list xs ys r s (λ d. (behind e g d (h d .0), behind (sym e) k d (h d .1))) in
         cc
+
+-- a list of what is never so has no entry
+pub none-so : {A : Type 0} {Below : A → A → Type 0} {So : A → Type 0} (ds : List A) → ListOf Below So ds → ((d : A) → So d → ⊥) → ds ≡ []
+none-so [] x f = refl
+none-so (d ∷ ds) x f = absurd (f d (x .exactly d .0 (List·Memᴰ·head refl)))

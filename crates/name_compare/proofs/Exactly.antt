@@ -1,10 +1,10 @@
 -- "each key once and with which of the three it is": a key is listed exactly when one of the three holds of it, and keys rise.
 -- Assumes nothing.
 use Prim.Native.Nat.{ℕ, _<_}
-use mathlib.Core.Path.{_≡_, refl, sym, ap, subst}
+use mathlib.Core.Path.{_≡_, refl, sym, ap, _∙_, subst}
 use mathlib.Core.Bool.{Bool, true, false, false≢true}
-use mathlib.Core.Option.{Option, none, some}
-use mathlib.Core.List.{List}
+use mathlib.Core.Option.{Option, none, some, Option·some-injective}
+use mathlib.Core.List.{List, []}
 use native.Mathlib.Omega.{arith}
 use Rattle.bigendian.specs.Numbers.{Bytes}
 use Rattle.outcomes.specs.Firsts.{when}
@@ -16,7 +16,7 @@ use Rattle.name.specs.Acceptance.{faults}
 use Rattle.name_search.specs.Searches.{recordWith}
 use Rattle.name_search.proofs.Finds.{find-has, find-at, find-none}
 use Rattle.comparing.specs.Lists.{ListOf}
-use Rattle.comparing.proofs.Lists.{in-list, rises}
+use Rattle.comparing.proofs.Lists.{in-list, rises, none-so}
 use Rattle.name_compare.specs.Differences.{Difference, onlyLeft, onlyRight, otherBytes, same, inBoth, whichOf, entryFor, keyNumbered, keyCount, differenceAt, differences}
 use Rattle.name_compare.specs.Settled.{Differs, only-left, only-right, other-bytes, DifferenceBelow}
 use Rattle.name_compare.proofs.Strings.{same-exactly}
@@ -90,3 +90,12 @@ module _ (left right : List ℕ) (bl : Bytes left) (br : Bytes right) (al : faul
           let b : keyNumbered k ≡ e .key = own-key _ _ e g in
           let o = packed-order (numbered-small j (omega arith)) (numbered-small k m) .0 (rw (numbered-packed j, numbered-packed k) l) in
           rw (a, b) at o
+
+-- a table does not differ from itself: a key stands in one record, which has one string
+pub none-of-itself : (t : List ℕ) → Bytes t → faults t ≡ none → differences t t ≡ []
+none-of-itself t b a = none-so (differences t t) (lists-exactly t t b b a a) never
+  where
+    never : (d : Difference) → Differs t t d → ⊥
+    never _ (only-left {i = i} h l) = l i h
+    never _ (only-right {j = j} l h) = l j h
+    never _ (other-bytes {k = k} {i = i} {j = j} h g o) = let z : i ≡ j = Option·some-injective i j (sym (find-at t k b a h) ∙ find-at t k b a g) in o (ap (bytesOf t) z)

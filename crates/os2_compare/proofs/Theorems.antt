@@ -5,7 +5,7 @@ use Prim.Native.Nat.{ℕ, _*_, _≤_}
 use mathlib.Core.Path.{_≡_, sym, ap, _∙_, subst}
 use mathlib.Core.Logic.{_↔_, Iff·trans, Iff·and}
 use mathlib.Core.Option.{none, some}
-use mathlib.Core.List.{List, List·Memᴰ}
+use mathlib.Core.List.{List, [], List·Memᴰ}
 use native.Mathlib.Omega.{arith}
 use borrow.Author.Tests.{le-ltb}
 use lib.Dec.{ltb}
@@ -22,7 +22,7 @@ use Rattle.os2_acceptance.specs.Settled.{CheckSettled}
 use Rattle.os2_acceptance.proofs.Accepting.{check-settles, check-settled-is}
 use Rattle.comparing.specs.Lists.{ListOf}
 use Rattle.comparing.specs.Comparisons.{Comparison, listed}
-use Rattle.comparing.proofs.Lists.{one-each, in-list, rises}
+use Rattle.comparing.proofs.Lists.{one-each, in-list, rises, none-so}
 use Rattle.comparing.proofs.Settling.{Exactly, Compares, listed-within, settles, settled-is}
 use Rattle.os2_compare.specs.Differences.{Difference, differenceAt, differences, rowOf}
 use Rattle.os2_compare.specs.Comparisons.{levelRefusal, blameOf, comparedOf, roomOf}
@@ -60,6 +60,13 @@ lists-exactly L left right h l r =
     back : {d : Difference} → Differs L left right d → List·Memᴰ d (differences L left right)
     back (field-differs {k} {a} {b} n x y e) =
         in-differences L left right _ .1 (k, n, is-here L left right k (settled-answer L left k x) (settled-answer L right k y) (differ-exactly a b .1 e))
+
+-- a table does not differ from itself
+pub none-of-itself : (L : ℕ) (b : List ℕ) → L ≤ newest → judged L b ≡ none → differences L b b ≡ []
+none-of-itself L b h a = none-so (differences L b b) (lists-exactly L b b h a a) never
+  where
+    never : (d : Difference) → Differs L b b d → ⊥
+    never _ (field-differs {k} n x y e) = e (settled-answer L b k x ∙ sym (settled-answer L b k y))
 
 -- ---- the refusals
 
