@@ -163,6 +163,9 @@ static void print_refusals(void)
     refused(gv_os2_field(os2_table, sizeof os2_table, 5, GV_FIELDS).refusal);
 }
 
+/* A row is five numbers with no gap, so rows can be lent as numbers. */
+typedef char rows_are_numbers[sizeof(gv_os2_difference) == 5 * sizeof(int64_t) && sizeof(gv_name_difference) == 5 * sizeof(uint16_t) ? 1 : -1];
+
 static void print_answer(int64_t kind, int64_t value)
 {
     if (kind == GV_VALUE)

@@ -204,13 +204,13 @@ pub enum Which {
 #[repr(C)]
 #[derive(Clone, Copy, Debug, PartialEq, Eq, Hash)]
 pub struct Difference {
-    /// The key's four numbers.
+    /// The key's first number.
     pub platform: u16,
-    #[allow(missing_docs)]
+    /// Its second number.
     pub encoding: u16,
-    #[allow(missing_docs)]
+    /// Its third number.
     pub language: u16,
-    #[allow(missing_docs)]
+    /// Its fourth number.
     pub name: u16,
     which: u16,
 }

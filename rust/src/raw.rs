@@ -7,6 +7,8 @@
 //! reads only the tables and the 48 numbers, writes only the room, keeps no pointer, and answers whatever the bytes and
 //! numbers are.
 
+use core::mem::{align_of, size_of};
+
 use crate::{name, os2};
 
 /// `gv_refusal`.
@@ -91,6 +93,12 @@ pub(crate) struct Compared {
     pub(crate) side: u32,
     pub(crate) rows: usize,
 }
+
+// A row is five numbers and nothing else, so rows lent are numbers lent.
+const _: () = assert!(size_of::<os2::Difference>() == 5 * size_of::<i64>());
+const _: () = assert!(align_of::<os2::Difference>() == align_of::<i64>());
+const _: () = assert!(size_of::<name::Difference>() == 5 * size_of::<u16>());
+const _: () = assert!(align_of::<name::Difference>() == align_of::<u16>());
 
 // SAFETY: these are the sixteen functions of `include/gyalvindor.h`, with the types given there.
 unsafe extern "C" {

@@ -12,8 +12,10 @@ use Rattle.comparing.specs.Comparisons.{Comparison, listed, refused}
 abbrev pub Accepted : (Refusal → Type 0) → Type 0
 Accepted Gets = (r : Refusal) → Gets r → ⊥
 
--- of what the call, the left and the right table get as a refusal, what differs, the order of differences, and a difference's row
-pub data Settled {A N : Type 0} (Call OnLeft OnRight : Refusal → Type 0) (Below : A → A → Type 0) (Differs : A → Type 0) (row : A → List N) (room : List N) : Comparison → List N → Type 0 where
+-- the answer, and the room after it: over what the call, the left and the right table get as a refusal, the order of differences, what differs, and a
+-- difference's row
+pub data Settled {A N : Type 0} (Call OnLeft OnRight : Refusal → Type 0) (Below : A → A → Type 0) (Differs : A → Type 0) (row : A → List N)
+    (room : List N) : Comparison → List N → Type 0 where
   -- "1 for the level, first and with no side"
   call-refused : {r : Refusal} → Call r → Settled Call OnLeft OnRight Below Differs row room (refused Neither r) room
   -- "If an input is refused, the tool says which side and that refusal, left first, and lists nothing."
