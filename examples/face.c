@@ -190,7 +190,7 @@ static void print_changes(void)
     lighter[1] = 4;
     lighter[4] = 1;
     lighter[5] = 144;
-    done = gv_os2_compare(os2_table, sizeof os2_table, lighter, sizeof lighter, 5, &fields[0].field, 5 * GV_FIELDS);
+    done = gv_os2_compare(os2_table, sizeof os2_table, lighter, sizeof lighter, 5, (int64_t *)fields, 5 * GV_FIELDS);
     for (i = 0; i < done.rows; i++) {
         printf("  field %d:", (int)fields[i].field);
         print_answer(fields[i].left_kind, fields[i].left_value);
@@ -199,8 +199,8 @@ static void print_changes(void)
         printf("\n");
     }
     printf("  in room for 3 rows: ");
-    refused(gv_os2_compare(os2_table, sizeof os2_table, lighter, sizeof lighter, 5, &fields[0].field, 5 * 3).refusal);
-    done = gv_os2_compare(os2_table, 99, lighter, sizeof lighter, 5, &fields[0].field, 5 * GV_FIELDS);
+    refused(gv_os2_compare(os2_table, sizeof os2_table, lighter, sizeof lighter, 5, (int64_t *)fields, 5 * 3).refusal);
+    done = gv_os2_compare(os2_table, 99, lighter, sizeof lighter, 5, (int64_t *)fields, 5 * GV_FIELDS);
     printf("  with 99 bytes on the left: %s ", done.side == GV_LEFT ? "left" : "right");
     refused(done.refusal);
 
@@ -208,7 +208,7 @@ static void print_changes(void)
     memcpy(renamed, name_table, sizeof renamed);
     renamed[13] = 4;
     renamed[sizeof renamed - 1] = '8';
-    done = gv_name_compare(name_table, sizeof name_table, renamed, sizeof renamed, &keys[0].platform, 5 * 6);
+    done = gv_name_compare(name_table, sizeof name_table, renamed, sizeof renamed, (uint16_t *)keys, 5 * 6);
     for (i = 0; i < done.rows; i++)
         printf("  key %u %u %u %u: %s\n", keys[i].platform, keys[i].encoding, keys[i].language, keys[i].name,
                which_words[keys[i].which]);

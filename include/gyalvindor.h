@@ -37,7 +37,7 @@ extern "C" {
 
 /*
  * A refusal. Where the call is not refused, `number` is 0, and so are `carries` and `carried`. Where it is refused, all
- * members after the refusal are 0, in every answer. Where several refusals apply, the one that is given is the first in the
+ * members after the refusal are 0, in every answer, but for `side` of gv_compared, which says which table is refused. Where several refusals apply, the one that is given is the first in the
  * order that stands at the function. Records and tags are counted from 0.
  *
  *   number  given exactly when                                              carried
@@ -263,10 +263,11 @@ gv_written gv_os2_rewrite(const uint8_t *table, size_t table_length, uint8_t *ro
    What differs between two tables is listed in lent rows of five numbers, one row for each difference, from the first row on.
    The room is lent as a pointer to the first number of the first row and the count of numbers: five for each row. Where that
    count is no multiple of five, the numbers behind the last whole row are not touched. There may be no row at all. Rows behind
-   those that are written, and all rows where the call is refused, hold what they held. Tables and room must not overlap.
+   those that are written, and all rows where the call is refused, hold what they held. The two tables may overlap, or be the
+   same; the room overlaps neither.
 
        gv_os2_difference rows[GV_FIELDS];
-       gv_compared done = gv_os2_compare(left, left_length, right, right_length, 5, &rows[0].field, 5 * GV_FIELDS);
+       gv_compared done = gv_os2_compare(left, left_length, right, right_length, 5, (int64_t *)rows, 5 * GV_FIELDS);
        for (size_t i = 0; i < done.rows; i++)
            printf("field %d differs\n", (int)rows[i].field); */
 
@@ -312,7 +313,7 @@ gv_compared gv_os2_compare(const uint8_t *left, size_t left_length, const uint8_
                            int64_t *room, size_t numbers);
 
 /* The keys in which two 'name' tables differ, in the order of keys, each once. Tags are not compared. Refusals as gv_name_check
-   of the left table; then of the right one; then 29, with no side. As many rows as both tables have records are always enough. */
+   of the left table; then of the right one; then 29, with no side. As many rows as both tables have records together are always enough. */
 gv_compared gv_name_compare(const uint8_t *left, size_t left_length, const uint8_t *right, size_t right_length, uint16_t *room,
                             size_t numbers);
 

@@ -242,8 +242,8 @@ impl Difference {
 }
 
 /// The keys in which two tables differ, in the order of keys, each once: those that only one has, and those that both have
-/// with other string bytes, wherever the strings lie. They are written into the first rows, which is the answer; the other
-/// rows hold what they held. As many rows as both tables have records are always enough.
+/// with other string bytes, wherever the strings lie. They are written into the first rows, and these rows are the answer;
+/// the other rows hold what they held. As many rows as both tables have records together are always enough.
 ///
 /// # Errors
 ///

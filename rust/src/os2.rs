@@ -472,8 +472,8 @@ const fn told(kind: i64, value: i64) -> Answer<i64> {
 
 /// The fields in which two tables differ at a level, in the order of their numbers: those for which [`field`] gives different
 /// answers. Absent is another answer than a value. A field that came in after the level is not known on both sides, so it is
-/// not listed. They are written into the first rows, which is the answer; the other rows hold what they held. [`FIELD_COUNT`]
-/// rows are always enough.
+/// not listed. They are written into the first rows, and these rows are the answer; the other rows hold what they held.
+/// [`FIELD_COUNT`] rows are always enough.
 ///
 /// # Errors
 ///
@@ -487,7 +487,7 @@ const fn told(kind: i64, value: i64) -> Answer<i64> {
 /// use gyalvindor::os2::{self, fields, Difference};
 /// use gyalvindor::{Answer, CompareRefusal, Refusal, Side};
 ///
-/// // Version 0, and version 1 with another weight and no code pages.
+/// // Version 0, and version 1 with another weight and code pages that are 0.
 /// let mut left = [0; 78];
 /// left[4..8].copy_from_slice(&[1, 144, 0, 5]);
 /// let mut right = [0; 86];

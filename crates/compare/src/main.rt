@@ -47,6 +47,10 @@ fn compare_from(i: usize, count: usize) -> usize
 {
     let mut word = io::buffer();
     let n = os::arg(i, &mut word);
+    if os::errno() != 0 {
+        os::fail(b"os2 or name");
+        return count;
+    }
     if check::same(&word[..n], b"name") {
         if count - i < 3 {
             io::write_all(STDERR_FILENO, b"compare: name LEFT RIGHT\n");

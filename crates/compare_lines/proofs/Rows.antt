@@ -1,4 +1,4 @@
--- Lines written out: by computing. And an answer reads as in the 'OS/2' listing.
+-- Lines written out: by computing.
 -- Assumes nothing.
 use mathlib.Core.Path.{_≡_, refl}
 use mathlib.Core.List.{List, [], _∷_, map}
@@ -25,8 +25,8 @@ pub too-long : map tooLongLine (Left ∷ Right ∷ []) ≡ codes "left too long\
 unfolding tooLongLine tooLong
 too-long = refl
 
-pub names : nameLine 1 0 0 6 1 ∷ nameLine 3 1 1033 65535 2 ∷ nameLine 0 3 0 4 3 ∷ []
-    ≡ codes "left 1 0 0 6\n" ∷ codes "right 3 1 1033 65535\n" ∷ codes "both 0 3 0 4\n" ∷ []
+pub names : nameLine 1 0 0 6 1 ∷ nameLine 65535 65534 65533 65532 2 ∷ nameLine 0 3 0 4 3 ∷ []
+    ≡ codes "left 1 0 0 6\n" ∷ codes "right 65535 65534 65533 65532\n" ∷ codes "both 0 3 0 4\n" ∷ []
 unfolding nameLine whichText keyParts decimal digits
 names = refl
 

@@ -14,7 +14,7 @@ use Rattle.comparing.specs.declared.Side.{Side}
 use Rattle.comparing.specs.declared.Side.the-variants.{Neither, Left, Right}
 use Rattle.comparing.specs.Comparisons.{Blamed}
 
--- The `..Room` of a text is the most bytes that it has.
+-- The `..Room` of a text is at least as many bytes as it has.
 
 -- what stands before the refusal of a side
 abbrev pub sideText : Side → List ℕ

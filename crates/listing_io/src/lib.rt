@@ -1,4 +1,4 @@
-// What the listing programs share: a table read from a file or from standard input, and lines collected in a buffer and written.
+// What the programs share: a table read from a file or from standard input, and lines collected in a buffer and written.
 // No contract can say what a call of the operating system reads or writes: what is read has a bound, and where the next line goes is said.
 ghost use Prim.Native.Nat.{_+_, _≤_};
 ghost use lib.ListN.{length};

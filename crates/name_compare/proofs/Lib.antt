@@ -5,3 +5,5 @@ pub mod Rows
 pub mod Exactly
 pub mod Theorems
 pub mod Numbers
+pub mod Saying
+pub mod Worked

@@ -1,6 +1,9 @@
 -- The refusals of a comparison, each with its side, its number and what it carries, and rows of differences, written out: by computing.
 -- Assumes nothing.
+use Prim.Native.Nat.{ℕ}
 use mathlib.Core.Path.{_≡_, refl}
+use mathlib.Core.Logic.{inl, inr}
+use native.Mathlib.Omega.{arith}
 use mathlib.Core.Option.{none, some}
 use mathlib.Core.List.{List, [], _∷_, map}
 use Rattle.name.specs.declared.Refusal.the-variants.{TooShort, UnknownFormat, RecordsPastEnd, TagsPastEnd, StorageMisplaced}
@@ -14,6 +17,7 @@ use Rattle.name_compare.specs.declared.Refusal.the-variants.{Left, Right
 use Rattle.name_compare.specs.Differences.{Difference, onlyLeft, onlyRight, otherBytes, keyNumbered, rowOf}
 use Rattle.name_compare.specs.declared.Compared.the-variants.{Listed, Refused}
 use Rattle.name_compare.specs.Comparisons.{saidRefusal, saidCompared}
+use Rattle.name_compare.specs.Settled.{DifferenceBelow}
 
 abbrev refusals : List Refusal
 refusals =
@@ -45,3 +49,13 @@ differing =
 pub rows : map rowOf differing ≡ (1 ∷ 2 ∷ 3 ∷ 4 ∷ 1 ∷ []) ∷ (65535 ∷ 1 ∷ 1033 ∷ 65534 ∷ 2 ∷ []) ∷ (1 ∷ 2 ∷ 3 ∷ 4 ∷ 3 ∷ []) ∷ []
 unfolding rowOf keyNumbered
 rows = refl
+
+-- a row is the key's four numbers as they are, and which of the three it is
+pub row-is : (p e l n w : ℕ) → rowOf (record { key = keyFrom p e l n; which = w }) ≡ p ∷ e ∷ l ∷ n ∷ w ∷ []
+unfolding rowOf
+row-is p e l n w = refl
+
+-- the order of rows is that of keys, by the first number in which two differ
+pub in-order : (w : ℕ) → DifferenceBelow (record { key = keyFrom 1 9 9 9; which = w }) (record { key = keyFrom 3 0 0 0; which = w })
+    × DifferenceBelow (record { key = keyFrom 1 0 0 1; which = w }) (record { key = keyFrom 1 0 0 2; which = w })
+in-order w = (inl (omega arith), inr (refl, inr (refl, inr (refl, omega arith))))

@@ -69,6 +69,19 @@ struct Step {
     right: usize,
 }
 
+impl Step {
+    fn new(key: u64, which: u16, left: usize, right: usize) -> Step
+        ensures { λ r. ⌜ r ≡ record { key = key; which = which; left = left; right = right } ⌝ }
+    {
+        Step {
+            key,
+            which,
+            left,
+            right,
+        }
+    }
+}
+
 // Lists the keys that differ in rows of five numbers: platform, encoding, language, name, and 1 for a key only on the left, 2 for one only on the right, 3 for
 // one in both with other string bytes.
 pub fn compare(left: &[u8], right: &[u8], rows: &mut [u16]) -> Compared
@@ -156,53 +169,23 @@ fn advance(left: &[u8], right: &[u8], i: usize, j: usize) -> Step
     ensures { λ r. ⌜ Stepped (now (left .entry)) (now (right .entry)) i j r ⌝ }
 {
     if i == record_count(left) as usize {
-        return Step {
-            key: key_at(right, j),
-            which: ONLY_RIGHT,
-            left: i,
-            right: j + 1,
-        };
+        return Step::new(key_at(right, j), ONLY_RIGHT, i, j + 1);
     }
     let key = key_at(left, i);
     if j == record_count(right) as usize {
-        return Step {
-            key,
-            which: ONLY_LEFT,
-            left: i + 1,
-            right: j,
-        };
+        return Step::new(key, ONLY_LEFT, i + 1, j);
     }
     let other = key_at(right, j);
     if key < other {
-        return Step {
-            key,
-            which: ONLY_LEFT,
-            left: i + 1,
-            right: j,
-        };
+        return Step::new(key, ONLY_LEFT, i + 1, j);
     }
     if other < key {
-        return Step {
-            key: other,
-            which: ONLY_RIGHT,
-            left: i,
-            right: j + 1,
-        };
+        return Step::new(other, ONLY_RIGHT, i, j + 1);
     }
     if same_string(left, right, i, j) {
-        return Step {
-            key,
-            which: NO_DIFFERENCE,
-            left: i + 1,
-            right: j + 1,
-        };
+        return Step::new(key, NO_DIFFERENCE, i + 1, j + 1);
     }
-    Step {
-        key,
-        which: OTHER_BYTES,
-        left: i + 1,
-        right: j + 1,
-    }
+    Step::new(key, OTHER_BYTES, i + 1, j + 1)
 }
 
 // Whether record i on the left and record j on the right have the same string.

@@ -4,3 +4,4 @@ pub mod Numbers
 pub mod Theorems
 pub mod Ways
 pub mod Worked
+pub mod Saying

@@ -1,9 +1,10 @@
 -- The refusals, the answers and the rows of the code, written out in document 01's and document 02's numbers: by computing.
 -- Assumes nothing.
+use Prim.Native.Nat.{ℕ}
 use mathlib.Core.Path.{_≡_, refl}
 use mathlib.Core.Option.{none, some}
 use mathlib.Core.List.{List, [], _∷_, map}
-use lib.IntN.{pos, negsuc}
+use lib.IntN.{ℤ, pos, negsuc}
 use Rattle.outcomes.specs.Outcomes.{bare, carrying}
 use Rattle.os2_acceptance.specs.declared.Refusal.the-variants.{TooShort, RuleBroken}
 use Rattle.os2_answers.specs.declared.Answer.the-variants.{Value, Absent, NotKnown}
@@ -52,3 +53,8 @@ pub row-numbers : map rowOf (
     row 39 1 (pos 5) 2 (pos 0) ∷ row 1 1 (negsuc 4) 1 (pos 5) ∷ row 47 3 (pos 0) 1 (pos 0) ∷ []
 unfolding rowOf
 row-numbers = refl
+
+-- a row has the field and the values as they are
+pub row-is : (k : ℕ) (x y : ℤ) → rowOf (record { field = k; left = Value x; right = Value y }) ≡ row k 1 x 1 y
+unfolding rowOf
+row-is k x y = refl

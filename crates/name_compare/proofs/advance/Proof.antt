@@ -43,15 +43,16 @@ key-at-requires c κs =
     let s = c .before .before .before .before in
     record-inside _ (s .pre .both .rightAccepted) _ (omega (arith, s .pre, c .before .record-count .ensures))
 
-add-t11 : tie.Need-add-t11
-add-t11 c = let s = c .before .before .before .before .before in omega (arith, s .pre, word-lt (now (s .args .right)) (s .pre .both .rightBytes) 2)
+add-new : tie.Need-add-new
+add-new c = let s = c .before .before .before .before .before in omega (arith, s .pre, word-lt (now (s .args .right)) (s .pre .both .rightBytes) 2)
 
 returns : tie.Need-returns
 returns c =
-    let s = c .before .before .before .before .before in
-    let n = c .before .before .record-count .ensures in
+    let d = c .before in
+    let s = d .before .before .before .before .before in
+    let n = d .before .before .record-count .ensures in
     let k = s .pre .both in
-    rw (c .key-at .ensures)
+    rw (c .new .ensures, d .key-at .ensures)
     (record {
       onLeft = s .pre .onLeft;
       onRight = omega (arith, s .pre);
@@ -69,11 +70,12 @@ record-count-requires-2 c κs = accepted-framed _ (c .before .before .before .be
 
 returns-2 : tie.Need-returns-2
 returns-2 c =
-    let s = c .before .before .before .before .before .before .before in
-    let m = c .before .before .before .before .record-count .ensures in
-    let n = c .before .record-count2 .ensures in
+    let d = c .before in
+    let s = d .before .before .before .before .before .before .before in
+    let m = d .before .before .before .before .record-count .ensures in
+    let n = d .before .record-count2 .ensures in
     let k = s .pre .both in
-    rw (c .before .before .key-at2 .ensures)
+    rw (c .new2 .ensures, d .before .before .key-at2 .ensures)
     (record {
       onLeft = omega (arith, s .pre);
       onRight = s .pre .onRight;
@@ -88,32 +90,34 @@ key-at-requires-3 c κs =
 
 returns-3 : tie.Need-returns-3
 returns-3 c =
-    let s = c .before .before .before .before .before .before .before .before .before in
-    let m = c .before .before .before .before .before .before .record-count .ensures in
+    let d = c .before in
+    let s = d .before .before .before .before .before .before .before .before .before in
+    let m = d .before .before .before .before .before .before .record-count .ensures in
     let k = s .pre .both in
-    let e = c .before .before .before .before .key-at2 .ensures in
-    let f = c .before .key-at3 .ensures in
-    rw e
+    let e = d .before .before .before .before .key-at2 .ensures in
+    let f = d .before .key-at3 .ensures in
+    rw (c .new3 .ensures, e)
     (record {
       onLeft = omega (arith, s .pre);
       onRight = s .pre .onRight;
       onward = omega arith;
-      lists = λ out x. left-only _ _ k x (key-below _ (k .leftBytes) _) (omega (arith, s .pre)) (λ h. rw (e, f) at (c .if3 .taken));
+      lists = λ out x. left-only _ _ k x (key-below _ (k .leftBytes) _) (omega (arith, s .pre)) (λ h. rw (e, f) at (d .if3 .taken));
     })
 
 returns-4 : tie.Need-returns-4
 returns-4 c =
-    let s = c .before .before .before .before .before .before .before .before .before .before in
-    let n = c .before .before .before .before .record-count2 .ensures in
+    let d = c .before in
+    let s = d .before .before .before .before .before .before .before .before .before .before in
+    let n = d .before .before .before .before .record-count2 .ensures in
     let k = s .pre .both in
-    let e = c .before .before .before .before .before .key-at2 .ensures in
-    let f = c .before .before .key-at3 .ensures in
-    rw f
+    let e = d .before .before .before .before .before .key-at2 .ensures in
+    let f = d .before .before .key-at3 .ensures in
+    rw (c .new4 .ensures, f)
     (record {
       onLeft = s .pre .onLeft;
       onRight = omega (arith, s .pre);
       onward = omega arith;
-      lists = λ out x. right-only _ _ k x (key-below _ (k .rightBytes) _) (omega (arith, s .pre)) (λ h. rw (e, f) at (c .if4 .taken));
+      lists = λ out x. right-only _ _ k x (key-below _ (k .rightBytes) _) (omega (arith, s .pre)) (λ h. rw (e, f) at (d .if4 .taken));
     })
 
 same-string-requires : tie.Need-same-string-requires
@@ -126,10 +130,10 @@ same-string-requires c κs =
     }
 
 returns-5 : tie.Need-returns-5
-returns-5 c = both (c .before) 0 (passes-same _ _ (sym (c .before .same-string .ensures) ∙ c .if5 .taken))
+returns-5 c = let d = c .before in rw (c .new5 .ensures) (both (d .before) 0 (passes-same _ _ (sym (d .before .same-string .ensures) ∙ d .if5 .taken)))
 
 returns-6 : tie.Need-returns-6
-returns-6 c = both (c .before) 3 (passes-other _ _ (sym (c .before .same-string .ensures) ∙ c .if5 .left))
+returns-6 c = let d = c .before in rw (c .new6 .ensures) (both (d .before) 3 (passes-other _ _ (sym (d .before .same-string .ensures) ∙ d .if5 .left)))
 
 pub advance-spec : {M : Type 1} → statement M
 advance-spec =
@@ -138,22 +142,28 @@ advance-spec =
     record-count-requires
     (λ c. search needs)
     key-at-requires
-    add-t11
+    add-new
+    (λ c κs. search needs)
     returns
     key-at-requires-2
     record-count-requires-2
     (λ c. search needs)
     (λ c. search needs)
+    (λ c κs. search needs)
     returns-2
     key-at-requires-3
     (λ c. search needs)
+    (λ c κs. search needs)
     returns-3
     (λ c. search needs)
+    (λ c κs. search needs)
     returns-4
     same-string-requires
     (λ c. search needs)
     (λ c. search needs)
+    (λ c κs. search needs)
     returns-5
     (λ c. search needs)
     (λ c. search needs)
+    (λ c κs. search needs)
     returns-6)
