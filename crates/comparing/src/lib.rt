@@ -2,6 +2,7 @@
 // Document 02, Ask 2. It relies on `outcomes` for a refusal.
 ghost use mathlib.Core.Path.{_≡_};
 ghost use Rattle.outcomes.specs.Outcomes.{refusalOf};
+ghost use Rattle.comparing.specs.Rooms.{tooMany};
 ghost use Rattle.comparing.specs.Comparisons.{on, blamedOf};
 use outcomes::Told;
 
@@ -28,4 +29,11 @@ impl Blame {
     {
         Blame { side, told }
     }
+}
+
+// 29: whether there are more differences than rows in so many numbers.
+pub fn too_many(differences: usize, numbers: usize) -> bool
+    ensures { λ r. ⌜ r ≡ tooMany differences numbers ⌝ }
+{
+    numbers / ROW_SIZE < differences
 }

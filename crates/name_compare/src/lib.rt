@@ -16,6 +16,7 @@ ghost use Rattle.name_compare.specs.Steps.{Both, Within, Records, Steppe
 use comparing::Blame;
 use comparing::ROW_SIZE;
 use comparing::Side;
+use comparing::too_many;
 use name::Verdict;
 use name_layout::key_at;
 use name_layout::record_count;
@@ -95,7 +96,7 @@ pub fn compare(left: &[u8], right: &[u8], rows: &mut [u16]) -> Compared
         return Compared::Refused(Refusal::Right(why));
     }
     let count = count_differences(left, right);
-    if rows.len() / ROW_SIZE < count {
+    if too_many(count, rows.len()) {
         return Compared::Refused(Refusal::TooManyDifferences);
     }
     write_differences(left, right, count, rows);

@@ -15,6 +15,7 @@ ghost use Rattle.os2_compare.specs.Steps.{Accepted, Entry};
 use comparing::Blame;
 use comparing::ROW_SIZE;
 use comparing::Side;
+use comparing::too_many;
 use level::Level;
 use level::LevelAnswer;
 use os2_acceptance::Checked;
@@ -81,7 +82,7 @@ pub fn compare(left: &[u8], right: &[u8], level: u32, rows: &mut [i64]) -> Compa
         return Compared::Refused(Refusal::Right(why));
     }
     let count = count_differences(left, right, known);
-    if rows.len() / ROW_SIZE < count {
+    if too_many(count, rows.len()) {
         return Compared::Refused(Refusal::TooManyDifferences);
     }
     write_differences(left, right, known, count, rows);

@@ -1,16 +1,14 @@
 -- Each table is checked, the differences are counted, and they are written where there are rows enough.
 -- Assumes nothing.
-use mathlib.Core.Path.{_≡_, refl, ap, _∙_}
+use mathlib.Core.Path.{_≡_, refl, sym, ap, _∙_}
 use mathlib.Core.Option.{none}
 use native.Mathlib.Omega.{arith}
 use denote.Ref.{now}
-use lib.ListN.{length}
 use Rattle.name.specs.Acceptance.{faults}
 use Rattle.name.proofs.Acceptances.{accepted-none, refused-some}
 use Rattle.comparing.specs.Comparisons.{listed}
-use Rattle.comparing.proofs.Rooms.{too-many-exactly, enough-exactly}
+use Rattle.comparing.proofs.Rooms.{enough-exactly}
 use Rattle.comparing.proofs.Settling.{way-left, way-right, way-many, way-listed, is-refused, is-listed}
-use Rattle.name_compare.specs.Differences.{differences}
 use Rattle.name_compare.specs.Comparisons.{blameOf, comparedOf, roomOf}
 use Rattle.name_compare.specs.Steps.{Both}
 use borrow.Author.Needs.{needs}
@@ -50,22 +48,23 @@ count-differences-requires c κs = both c
 returns-3 : tie.Need-returns-3
 unfolding blameOf comparedOf roomOf
 returns-3 c =
-    let t = c .before .before in
-    let n = c .before .count-differences .ensures in
+    let t = c .before .before .before in
+    let n = c .before .before .count-differences .ensures in
     is-refused _ _ _
-    (way-many _ _ _ _ _ refl (on-left (t .before .before .before)) (on-right t) (too-many-exactly _ _ .1 (rw (← n) (c .if1 .taken))))
+    (way-many _ _ _ _ _ refl (on-left (t .before .before .before)) (on-right t) (sym (rw n at (c .before .too-many .ensures)) ∙ c .if1 .taken))
 
 write-differences-requires : tie.Need-write-differences-requires
-write-differences-requires c κs = (both (c .before .before .before), c .before .before .count-differences .ensures, c .before .if1 .left)
+write-differences-requires c κs =
+    let e = c .before .before .too-many .ensures in
+    (both (c .before .before .before .before), c .before .before .before .count-differences .ensures, enough-exactly _ _ .0 (sym e ∙ c .before .if1 .left))
 
 returns-4 : tie.Need-returns-4
 unfolding blameOf comparedOf roomOf
 returns-4 c =
-    let t = c .before .before .before .before .before .before in
-    let n = c .before .before .before .before .before .count-differences .ensures in
-    let s = t .before .before .before .before .before .before .before .before .before .args in
-    let l = rw n at (c .before .before .before .before .if1 .left) in
-    let enough = enough-exactly (length (differences (now (s .left)) (now (s .right)))) (length (now (s .rows))) .1 l in
+    let e = c .before .before .before .before .before in
+    let t = e .before .before in
+    let n = e .before .count-differences .ensures in
+    let enough = sym (rw n at (e .too-many .ensures)) ∙ c .before .before .before .before .if1 .left in
     let p = is-listed _ _ _ (way-listed _ _ _ _ _ refl (on-left (t .before .before .before)) (on-right t) enough) in
     (ap listed n ∙ p .0, c .before .before .write-differences .ensures ∙ p .1)
 
@@ -82,6 +81,7 @@ compare-spec =
     returns-2
     (λ c. search needs)
     count-differences-requires
+    (λ c κs. search needs)
     returns-3
     write-differences-requires
     (λ c. search needs)

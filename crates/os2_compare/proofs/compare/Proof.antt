@@ -6,6 +6,7 @@ use Rattle.level.specs.Levels.{numberOf, levelOf}
 use Rattle.level.specs.declared.LevelAnswer.the-variants.{Known}
 use Rattle.os2_acceptance.specs.Acceptance.{judged}
 use Rattle.os2_acceptance.specs.Replies.{saidFound}
+use Rattle.comparing.proofs.Rooms.{too-many-exactly, enough-exactly}
 use Rattle.os2_compare.proofs.Ways.{level-refused, left-refused, right-refused, too-many, all-listed}
 use borrow.Author.Needs.{needs}
 use Rattle.os2_compare.proofs.compare.Statement.{statement}
@@ -45,25 +46,30 @@ count-differences-requires c κs = record { onLeft = on-left (c .before .before 
 
 returns-4 : tie.Need-returns-4
 returns-4 c =
-    let r = c .before .before in
+    let m = c .before in
+    let r = m .before .before in
     let l = r .before .before .before in
-    too-many _ _ _ _ (known (l .before .before .before)) (on-left l) (on-right r) (c .before .count-differences .ensures) (c .if1 .taken)
+    too-many _ _ _ _ (known (l .before .before .before)) (on-left l) (on-right r) (m .before .count-differences .ensures)
+    (too-many-exactly _ _ .0 (sym (m .too-many .ensures) ∙ c .if1 .taken))
 
 write-differences-requires : tie.Need-write-differences-requires
 write-differences-requires c κs =
-    let n = c .before .before in
-    (record { onLeft = on-left (n .before .before .before .before); onRight = on-right (n .before) }, n .count-differences .ensures, c .before .if1 .left)
+    let m = c .before .before in
+    let n = m .before in
+    let enough = enough-exactly _ _ .0 (sym (m .too-many .ensures) ∙ c .before .if1 .left) in
+    (record { onLeft = on-left (n .before .before .before .before); onRight = on-right (n .before) }, n .count-differences .ensures, enough)
 
 returns-5 : tie.Need-returns-5
 returns-5 c =
-    let n = c .before .before .before .before in
+    let m = c .before .before .before .before in
+    let n = m .before in
     let l = n .before .before .before .before in
     all-listed _ _ _ _ (known (l .before .before .before)) (on-left l) (on-right (n .before)) (n .count-differences .ensures)
-    (c .before .before .before .if1 .left) (c .before .write-differences .ensures)
+    (enough-exactly _ _ .0 (sym (m .too-many .ensures) ∙ c .before .before .before .if1 .left)) (c .before .write-differences .ensures)
 
 pub compare-spec : {M : Type 1} → statement M
 compare-spec =
     tie.close
     (tie.spec (λ c κs. search needs) (λ c. search needs) (λ c. search needs) returns (λ c κs. search needs) (λ c. search needs) returns-2
-    (λ c. search needs) (λ c κs. search needs) (λ c. search needs) returns-3 (λ c. search needs) count-differences-requires returns-4
+    (λ c. search needs) (λ c κs. search needs) (λ c. search needs) returns-3 (λ c. search needs) count-differences-requires (λ c κs. search needs) returns-4
     write-differences-requires (λ c. search needs) returns-5)
