@@ -37,8 +37,9 @@ extern "C" {
 
 /*
  * A refusal. Where the call is not refused, `number` is 0, and so are `carries` and `carried`. Where it is refused, all
- * members after the refusal are 0, in every answer, but for `side` of gv_compared, which says which table is refused. Where several refusals apply, the one that is given is the first in the
- * order that stands at the function. Records and tags are counted from 0.
+ * members after the refusal are 0, in every answer, but for `side` of gv_compared, which says which table is refused. Where
+ * several refusals apply, the one that is given is the first in the order that stands at the function. Records and tags are
+ * counted from 0.
  *
  *   number  given exactly when                                              carried
  *     1     the level is above 5                                            -
@@ -56,16 +57,19 @@ extern "C" {
  *    13     its tag count or tag records pass the end                       -
  *    14     its storage starts before the end of the records and tags,      -
  *           or past the table's end
- *    15     a record's string passes the end of storage                     the record
+ *    15     a record's string starts beyond the end of storage              the record
  *    16     a tag's string passes the end of storage                        the tag
- *    17     a record's key is not above the one before it                   the later record
+ *    17     a record's key is below the one before it                       the later record
  *    18     a record's language number is not allowed                       the record
+ *    19     a record's key is equal to the one before it                    the later record
  *    20     no record has the key (version: neither key)                    -
  *    21     neither PostScript record is there                              -
  *    22     exactly one is there                                            -
  *    23     a PostScript string is ill-formed                               -
  *    24     the two PostScript strings differ                               -
  *    25     no version number in the string                                 -
+ *    27     a record's string starts within storage or at its end, and      the record
+ *           runs over the end
  *    29     two tables have more differences than there are rows for        -
  *
  * The rules for OS/2 values that refusal 3 carries:
@@ -101,7 +105,7 @@ typedef struct gv_version {
     uint32_t minor;
 } gv_version;
 
-/* Is the table accepted? Refusals 10, 11, 12, 13, 14; then for each record 15, 18, 17; then for each tag 16. */
+/* Is the table accepted? Refusals 10, 11, 12, 13, 14; then for each record 15 or 27, 18, 17 or 19; then for each tag 16. */
 gv_refusal gv_name_check(const uint8_t *table, size_t length);
 
 /* The string of the record with these four numbers. Refusals as gv_name_check, then 20. Any numbers may be asked for: a part
@@ -313,7 +317,8 @@ gv_compared gv_os2_compare(const uint8_t *left, size_t left_length, const uint8_
                            int64_t *room, size_t numbers);
 
 /* The keys in which two 'name' tables differ, in the order of keys, each once. Tags are not compared. Refusals as gv_name_check
-   of the left table; then of the right one; then 29, with no side. As many rows as both tables have records together are always enough. */
+   of the left table; then of the right one; then 29, with no side. As many rows as both tables have records together are always
+   enough. */
 gv_compared gv_name_compare(const uint8_t *left, size_t left_length, const uint8_t *right, size_t right_length, uint16_t *room,
                             size_t numbers);
 

@@ -78,8 +78,9 @@ pub fn check(t: &[u8]) -> Result<()> {
     let mut before: Option<Key> = None;
     for i in 0..count {
         let record = Record::read(t, i);
-        if t.len() < storage + record.offset as usize + record.length as usize {
-            return refuse_at(15, i);
+        let start = storage + record.offset as usize;
+        if t.len() < start + record.length as usize {
+            return refuse_at(if t.len() < start { 15 } else { 27 }, i);
         }
         if record.language >= 0x8000 {
             let allowed = if format == 0 {
@@ -94,7 +95,7 @@ pub fn check(t: &[u8]) -> Result<()> {
         if let Some(before) = before
             && record.key() <= before
         {
-            return refuse_at(17, i);
+            return refuse_at(if record.key() < before { 17 } else { 19 }, i);
         }
         before = Some(record.key());
     }

@@ -48,7 +48,8 @@ pub fn check(t: &[u8]) -> Result<()> {
     let mut before = 0;
     for (i, record) in records.chunks_exact(12).enumerate() {
         if t.len() < string_end(storage, &record[8..]) {
-            return refuse_at(15, i);
+            let start = storage + u16_at(record, 10);
+            return refuse_at(if t.len() < start { 15 } else { 27 }, i);
         }
         let here = key(record);
         let language = here >> 16 & 0xffff;
@@ -56,7 +57,7 @@ pub fn check(t: &[u8]) -> Result<()> {
             return refuse_at(18, i);
         }
         if here <= before && i > 0 {
-            return refuse_at(17, i);
+            return refuse_at(if here < before { 17 } else { 19 }, i);
         }
         before = here;
     }

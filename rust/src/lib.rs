@@ -35,9 +35,9 @@
 //! // Name 1 is the family name; this table has none.
 //! assert_eq!(name::lookup(&table, 3, 1, 0x409, 1), Err(Refusal::NoRecord));
 //!
-//! // A table that lost its last byte: the string of record 1 does not fit.
+//! // A table that lost its last byte: the string of record 1 runs over its end.
 //! let cut = &table[..table.len() - 1];
-//! assert_eq!(name::postscript(cut), Err(Refusal::RecordString { record: 1 }));
+//! assert_eq!(name::postscript(cut), Err(Refusal::StringRunsOver { record: 1 }));
 //! # Ok::<(), Refusal>(())
 //! ```
 //!

@@ -46,8 +46,9 @@ pub struct Version {
 /// # Errors
 ///
 /// In this order: [`Refusal::NameTooShort`], [`Refusal::UnknownFormat`], [`Refusal::RecordsPassEnd`],
-/// [`Refusal::TagsPassEnd`], [`Refusal::StorageStart`]; then for each record [`Refusal::RecordString`],
-/// [`Refusal::Language`], [`Refusal::KeyOrder`]; then for each language tag [`Refusal::TagString`].
+/// [`Refusal::TagsPassEnd`], [`Refusal::StorageStart`]; then for each record [`Refusal::StringBeyond`] or
+/// [`Refusal::StringRunsOver`], [`Refusal::Language`], [`Refusal::KeyBelow`] or [`Refusal::KeyEqual`]; then for each
+/// language tag [`Refusal::TagString`].
 ///
 /// # Examples
 ///
@@ -61,12 +62,16 @@ pub struct Version {
 /// assert_eq!(name::check(&[0, 2, 0, 0, 0, 6]), Err(Refusal::UnknownFormat));
 ///
 /// // Two records with the same key, (1, 0, 0, 6), and empty strings.
-/// let table = [
+/// let mut table = [
 ///     0, 0, 0, 2, 0, 30, //
 ///     0, 1, 0, 0, 0, 0, 0, 6, 0, 0, 0, 0, //
 ///     0, 1, 0, 0, 0, 0, 0, 6, 0, 0, 0, 0,
 /// ];
-/// assert_eq!(name::check(&table), Err(Refusal::KeyOrder { record: 1 }));
+/// assert_eq!(name::check(&table), Err(Refusal::KeyEqual { record: 1 }));
+///
+/// // The second one's is (1, 0, 0, 5): it stands behind the first, and should stand before it.
+/// table[25] = 5;
+/// assert_eq!(name::check(&table), Err(Refusal::KeyBelow { record: 1 }));
 /// ```
 pub fn check(table: &[u8]) -> Result<(), Refusal> {
     Refusal::checked(raw::name_check(table))

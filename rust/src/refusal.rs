@@ -19,16 +19,27 @@ use crate::raw;
 /// assert_eq!(refusal.number(), 10);
 /// assert_eq!(refusal.carried(), None);
 ///
-/// // One record, whose string would need 9 bytes of a storage that has 2.
-/// let table = [
+/// // One record, whose string would need 9 bytes of a storage that has 2: it starts where it may, and runs over.
+/// let mut table = [
 ///     0, 0, 0, 1, 0, 18, // format 0, one record, storage starts at byte 18
 ///     0, 3, 0, 1, 4, 9, 0, 4, 0, 9, 0, 0, // the record: its key, length 9, offset 0
 ///     0, b'A', // the storage
 /// ];
 /// let refusal = name::check(&table).unwrap_err();
-/// assert_eq!(refusal, Refusal::RecordString { record: 0 });
+/// assert_eq!(refusal, Refusal::StringRunsOver { record: 0 });
+/// assert_eq!((refusal.number(), refusal.carried()), (27, Some(0)));
+/// assert_eq!(refusal.to_string(), "the string of record 0 runs over the end of the 'name' table's storage");
+///
+/// // With offset 3 it starts beyond the storage's end, however short it is.
+/// table[15] = 0; // the length
+/// table[17] = 3; // the offset
+/// let refusal = name::check(&table).unwrap_err();
+/// assert_eq!(refusal, Refusal::StringBeyond { record: 0 });
 /// assert_eq!((refusal.number(), refusal.carried()), (15, Some(0)));
-/// assert_eq!(refusal.to_string(), "the string of record 0 passes the end of the 'name' table's storage");
+///
+/// // An empty string may start at the end.
+/// table[17] = 2;
+/// assert_eq!(name::check(&table), Ok(()));
 /// ```
 #[derive(Clone, Copy, Debug, PartialEq, Eq, Hash)]
 pub enum Refusal {
@@ -61,8 +72,8 @@ pub enum Refusal {
     TagsPassEnd,
     /// 14: the storage starts before the end of the records and tags, or past the table's end.
     StorageStart,
-    /// 15: a record's string passes the end of storage. Carries the record.
-    RecordString {
+    /// 15: a record's string starts beyond the end of storage, be it empty or not. Carries the record.
+    StringBeyond {
         /// The record's number, counted from 0.
         record: usize,
     },
@@ -71,14 +82,19 @@ pub enum Refusal {
         /// The tag's number, counted from 0.
         tag: usize,
     },
-    /// 17: a record's key is not above the key of the record before it. Carries the later record.
-    KeyOrder {
+    /// 17: a record's key is below the key of the record before it. Carries the later record.
+    KeyBelow {
         /// The later record's number, counted from 0.
         record: usize,
     },
     /// 18: a record's language number is not allowed. Carries the record.
     Language {
         /// The record's number, counted from 0.
+        record: usize,
+    },
+    /// 19: a record's key is equal to the key of the record before it. Carries the later record.
+    KeyEqual {
+        /// The later record's number, counted from 0.
         record: usize,
     },
     /// 20: no record has the key; for the version number, neither of its two keys.
@@ -93,6 +109,11 @@ pub enum Refusal {
     PostScriptDiffer,
     /// 25: there is no version number in the version string.
     NoVersionNumber,
+    /// 27: a record's string starts within storage or at its end, and runs over the end. Carries the record.
+    StringRunsOver {
+        /// The record's number, counted from 0.
+        record: usize,
+    },
     /// 29: two tables have more differences than there are rows for.
     TooManyDifferences,
 }
@@ -172,7 +193,7 @@ impl fmt::Display for Rule {
 }
 
 impl Refusal {
-    /// The refusal's number: 1 to 8, 10 to 18, 20 to 25 or 29.
+    /// The refusal's number: 1 to 8, 10 to 25, 27 or 29.
     pub const fn number(self) -> u32 {
         match self {
             Refusal::UnknownLevel => 1,
@@ -188,16 +209,18 @@ impl Refusal {
             Refusal::RecordsPassEnd => 12,
             Refusal::TagsPassEnd => 13,
             Refusal::StorageStart => 14,
-            Refusal::RecordString { .. } => 15,
+            Refusal::StringBeyond { .. } => 15,
             Refusal::TagString { .. } => 16,
-            Refusal::KeyOrder { .. } => 17,
+            Refusal::KeyBelow { .. } => 17,
             Refusal::Language { .. } => 18,
+            Refusal::KeyEqual { .. } => 19,
             Refusal::NoRecord => 20,
             Refusal::NoPostScriptRecord => 21,
             Refusal::OnePostScriptRecord => 22,
             Refusal::PostScriptIllFormed => 23,
             Refusal::PostScriptDiffer => 24,
             Refusal::NoVersionNumber => 25,
+            Refusal::StringRunsOver { .. } => 27,
             Refusal::TooManyDifferences => 29,
         }
     }
@@ -207,9 +230,11 @@ impl Refusal {
         match self {
             Refusal::ValueRule(rule) => Some(rule.number()),
             Refusal::ValueMisfit { field } => Some(field),
-            Refusal::RecordString { record }
-            | Refusal::KeyOrder { record }
-            | Refusal::Language { record } => Some(record),
+            Refusal::StringBeyond { record }
+            | Refusal::StringRunsOver { record }
+            | Refusal::Language { record }
+            | Refusal::KeyBelow { record }
+            | Refusal::KeyEqual { record } => Some(record),
             Refusal::TagString { tag } => Some(tag),
             _ => None,
         }
@@ -233,16 +258,18 @@ impl Refusal {
             12 => Refusal::RecordsPassEnd,
             13 => Refusal::TagsPassEnd,
             14 => Refusal::StorageStart,
-            15 => Refusal::RecordString { record: carried },
+            15 => Refusal::StringBeyond { record: carried },
             16 => Refusal::TagString { tag: carried },
-            17 => Refusal::KeyOrder { record: carried },
+            17 => Refusal::KeyBelow { record: carried },
             18 => Refusal::Language { record: carried },
+            19 => Refusal::KeyEqual { record: carried },
             20 => Refusal::NoRecord,
             21 => Refusal::NoPostScriptRecord,
             22 => Refusal::OnePostScriptRecord,
             23 => Refusal::PostScriptIllFormed,
             24 => Refusal::PostScriptDiffer,
             25 => Refusal::NoVersionNumber,
+            27 => Refusal::StringRunsOver { record: carried },
             29 => Refusal::TooManyDifferences,
             number => unreachable!("the library knows no refusal {number}"),
         })
@@ -278,21 +305,25 @@ impl fmt::Display for Refusal {
             Refusal::StorageStart => f.write_str(
                 "the 'name' table's storage starts before the end of the records and tags, or past the table's end",
             ),
-            Refusal::RecordString { record } => write!(
+            Refusal::StringBeyond { record } => write!(
                 f,
-                "the string of record {record} passes the end of the 'name' table's storage"
+                "the string of record {record} starts beyond the end of the 'name' table's storage"
             ),
             Refusal::TagString { tag } => write!(
                 f,
                 "the string of language tag {tag} passes the end of the 'name' table's storage"
             ),
-            Refusal::KeyOrder { record } => write!(
+            Refusal::KeyBelow { record } => write!(
                 f,
-                "the key of record {record} is not above the key of the record before it"
+                "the key of record {record} is below the key of the record before it"
             ),
             Refusal::Language { record } => {
                 write!(f, "the language number of record {record} is not allowed")
             }
+            Refusal::KeyEqual { record } => write!(
+                f,
+                "the key of record {record} is equal to the key of the record before it"
+            ),
             Refusal::NoRecord => f.write_str("no record has the key"),
             Refusal::NoPostScriptRecord => f.write_str("there is no PostScript record"),
             Refusal::OnePostScriptRecord => {
@@ -303,6 +334,10 @@ impl fmt::Display for Refusal {
             Refusal::NoVersionNumber => {
                 f.write_str("there is no version number in the version string")
             }
+            Refusal::StringRunsOver { record } => write!(
+                f,
+                "the string of record {record} runs over the end of the 'name' table's storage"
+            ),
             Refusal::TooManyDifferences => {
                 f.write_str("the two tables have more differences than there are rows for")
             }

@@ -57,7 +57,7 @@ impl Refused {
     }
 }
 
-/// The words of the compare tool: `refused 1`, `left refused 17 at 1`,
+/// The words of the compare tool: `refused 1`, `left refused 19 at 1`,
 /// `right refused 11`.
 impl fmt::Display for Refused {
     fn fmt(&self, f: &mut fmt::Formatter<'_>) -> fmt::Result {

@@ -1,6 +1,6 @@
 //! A second, independent reader of 'name' tables, reader and writer of 'OS/2'
 //! tables and comparison of two of either, written from document 01, "The font
-//! desk's rules for 'name' and 'OS/2'", and Asks 1 and 2 of document 02, "The
+//! desk's rules for 'name' and 'OS/2'", and Asks 1 to 3 of document 02, "The
 //! next customer requests", alone.
 //!
 //! It exists to be compared with another program. So it is written for plain
@@ -23,11 +23,11 @@ pub mod sfnt;
 
 use std::fmt;
 
-/// A refusal: its number in document 01's table, or 29 of document 02's Ask 2,
-/// and what it carries.
+/// A refusal: its number in document 01's table, 29 of document 02's Ask 2, or
+/// 19 or 27 of its Ask 3, and what it carries.
 ///
 /// 3 carries the first rule broken (1 to 7), 8 the lowest field that does not
-/// fit, 15, 17 and 18 a record, 16 a tag. All others carry nothing.
+/// fit, 15, 17, 18, 19 and 27 a record, 16 a tag. All others carry nothing.
 #[derive(Clone, Copy, Debug, PartialEq, Eq, Hash)]
 pub struct Refusal {
     /// The refusal's number.
@@ -54,7 +54,7 @@ impl Refusal {
     }
 }
 
-/// The words of the listing program: `refused 11` or `refused 17 at 1`.
+/// The words of the listing program: `refused 11` or `refused 19 at 1`.
 impl fmt::Display for Refusal {
     fn fmt(&self, f: &mut fmt::Formatter<'_>) -> fmt::Result {
         match self.carries {

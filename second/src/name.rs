@@ -1,4 +1,4 @@
-//! The 'name' table: the check (10 to 18), the lookup (20), the PostScript
+//! The 'name' table: the check (10 to 19, 27), the lookup (20), the PostScript
 //! question (21 to 24) and the version question (20, 25).
 
 use crate::{u16_at, Refusal};
@@ -102,7 +102,7 @@ pub struct Version {
 }
 
 /// Checks the whole table. Refusals: 10, 11, 12, 13, 14; then record by record
-/// 15, 18, 17; then tag by tag 16.
+/// 15 or 27, 18, 17 or 19; then tag by tag 16.
 pub fn check(bytes: &[u8]) -> Result<(), Refusal> {
     read(bytes).map(|_| ())
 }
@@ -150,27 +150,39 @@ pub fn read(bytes: &[u8]) -> Result<Table, Refusal> {
     }
     let storage_length = bytes.len() - storage_start;
 
-    // Records from 0 upward, at each 15, 18, 17.
+    // Records from 0 upward, at each 15 or 27, 18, 17 or 19 (document 02, Ask
+    // 3).
     let mut records: Vec<Record> = Vec::new();
     for number in 0..count {
         let record = record_at(bytes, HEADER_BYTES + RECORD_BYTES * number);
         // The count is a 16-bit number, so the record's number is one too.
         let place = number as u32;
-        if passes_storage(record.offset, record.length, storage_length) {
+        // 15: the string starts beyond the storage's end, be it empty or not.
+        if starts_beyond(record.offset, storage_length) {
             return Err(Refusal::at(15, place));
         }
+        // 27: it starts within the storage or at its end, and runs over.
+        if passes_storage(record.offset, record.length, storage_length) {
+            return Err(Refusal::at(27, place));
+        }
+        // 18: language number not allowed.
         if !language_allowed(format, record.platform, record.language, tag_count) {
             return Err(Refusal::at(18, place));
         }
         if let Some(before) = records.last() {
-            if record.key() <= before.key() {
+            // 17: the key is below the one before it.
+            if record.key() < before.key() {
                 return Err(Refusal::at(17, place));
+            }
+            // 19: the key is equal to it.
+            if record.key() == before.key() {
+                return Err(Refusal::at(19, place));
             }
         }
         records.push(record);
     }
 
-    // Tags from 0 upward, 16.
+    // Tags from 0 upward, 16, wherever the string starts.
     let mut tags: Vec<Tag> = Vec::new();
     for number in 0..tag_count {
         let at = tags_start + TAG_BYTES * number;
@@ -203,6 +215,12 @@ fn record_at(bytes: &[u8], at: usize) -> Record {
         length: u16_at(bytes, at + 8),
         offset: u16_at(bytes, at + 10),
     }
+}
+
+/// Whether a string with this offset starts beyond the storage's end. One that
+/// starts at the end does not.
+fn starts_beyond(offset: u16, storage_length: usize) -> bool {
+    usize::from(offset) > storage_length
 }
 
 /// Whether offset plus length is above the storage's length, empty strings

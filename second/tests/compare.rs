@@ -614,7 +614,7 @@ fn rows_are_the_lookups_that_differ() {
 
 // ---- 'name': the refusals ----
 
-/// A table for each of the refusals 10 to 18, with what it carries.
+/// Tables for each of the refusals 10 to 19 and 27, with what they carry.
 fn refused_tables() -> Vec<(Vec<u8>, u32, Option<u32>)> {
     vec![
         (vec![0; 5], 10, None),
@@ -622,10 +622,15 @@ fn refused_tables() -> Vec<(Vec<u8>, u32, Option<u32>)> {
         (words(&[0, 1, 6]), 12, None),
         (words(&[1, 0, 6]), 13, None),
         (words(&[0, 0, 5]), 14, None),
-        (name0(&[[0, 0, 0, 0, 1, 0]], &[]), 15, Some(0)),
+        (name0(&[[0, 0, 0, 0, 0, 1]], &[]), 15, Some(0)),
+        (name0(&[[0; 6], [0, 0, 0, 1, 2, 65_535]], &[7]), 15, Some(1)),
         (name1(&[], &[[0, 0], [1, 0]], &[]), 16, Some(1)),
-        (name0(&[[1, 0, 0, 6, 0, 0]; 2], &[]), 17, Some(1)),
+        (name1(&[], &[[0, 1]], &[]), 16, Some(0)),
+        (name0(&[[1, 0, 0, 6, 0, 0], [0; 6]], &[]), 17, Some(1)),
         (name0(&[[0, 0, 0x8000, 0, 0, 0]], &[]), 18, Some(0)),
+        (name0(&[[1, 0, 0, 6, 0, 0]; 2], &[]), 19, Some(1)),
+        (name0(&[[0, 0, 0, 0, 1, 0]], &[]), 27, Some(0)),
+        (name0(&[[0; 6], [0, 0, 0, 1, 2, 0]], &[7]), 27, Some(1)),
     ]
 }
 
@@ -705,5 +710,10 @@ fn words_of_a_refusal() {
     assert_eq!(words(None, 1, None), "refused 1");
     assert_eq!(words(None, 29, None), "refused 29");
     assert_eq!(words(Some(Side::Left), 17, Some(1)), "left refused 17 at 1");
+    assert_eq!(words(Some(Side::Left), 19, Some(2)), "left refused 19 at 2");
+    assert_eq!(
+        words(Some(Side::Right), 27, Some(0)),
+        "right refused 27 at 0"
+    );
     assert_eq!(words(Some(Side::Right), 11, None), "right refused 11");
 }

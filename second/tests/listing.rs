@@ -32,6 +32,8 @@ fn refused_tables() {
         &[[1, 0, 0, 6, 2, 0], [1, 0, 0, 6, 4, 2]],
         &[0x41, 0x62, 0x00, 0x41, 0x00, 0x62],
     );
+    assert_eq!(listing::name(&table), "refused 19 at 1\n");
+    let table = name0(&[[1, 0, 0, 6, 0, 0], [1, 0, 0, 5, 0, 0]], &[]);
     assert_eq!(listing::name(&table), "refused 17 at 1\n");
     assert_eq!(listing::name(&words(&[2, 0, 6])), "refused 11\n");
     assert_eq!(listing::name(&[]), "refused 10\n");
@@ -39,7 +41,9 @@ fn refused_tables() {
     assert_eq!(listing::name(&words(&[1, 0, 6])), "refused 13\n");
     assert_eq!(listing::name(&words(&[0, 0, 5])), "refused 14\n");
     let table = name0(&[[0, 0, 0, 0, 1, 0]], &[]);
-    assert_eq!(listing::name(&table), "refused 15 at 0\n");
+    assert_eq!(listing::name(&table), "refused 27 at 0\n");
+    let table = name0(&[[0; 6], [0, 0, 0, 1, 0, 1]], &[]);
+    assert_eq!(listing::name(&table), "refused 15 at 1\n");
     let table = name1(&[], &[[0, 0], [1, 0]], &[]);
     assert_eq!(listing::name(&table), "refused 16 at 1\n");
     let table = name0(&[[0, 0, 0x8000, 0, 0, 0]], &[]);
@@ -233,9 +237,32 @@ fn compare_refusal_lines() {
     let fine = [0, 0, 0, 0, 0, 6];
     let format_2 = [0, 2, 0, 0, 0, 6];
     let twice = name0(&[[1, 0, 0, 6, 0, 0]; 2], &[]);
+    let falling = name0(&[[1, 0, 0, 6, 0, 0], [1, 0, 0, 5, 0, 0]], &[]);
+    let over = name0(&[[1, 0, 0, 6, 2, 0]], b"A");
+    let beyond = name0(&[[1, 0, 0, 6, 0, 2]], b"A");
     assert_eq!(
         listing::compare_name(&twice, &format_2),
+        "left refused 19 at 1\n"
+    );
+    assert_eq!(
+        listing::compare_name(&falling, &twice),
         "left refused 17 at 1\n"
+    );
+    assert_eq!(
+        listing::compare_name(&over, &beyond),
+        "left refused 27 at 0\n"
+    );
+    assert_eq!(
+        listing::compare_name(&beyond, &over),
+        "left refused 15 at 0\n"
+    );
+    assert_eq!(
+        listing::compare_name(&fine, &over),
+        "right refused 27 at 0\n"
+    );
+    assert_eq!(
+        listing::compare_name(&fine, &beyond),
+        "right refused 15 at 0\n"
     );
     assert_eq!(
         listing::compare_name(&format_2, &twice),
@@ -243,7 +270,7 @@ fn compare_refusal_lines() {
     );
     assert_eq!(
         listing::compare_name(&fine, &twice),
-        "right refused 17 at 1\n"
+        "right refused 19 at 1\n"
     );
     assert_eq!(
         listing::compare_name(&fine, &format_2),

@@ -116,48 +116,115 @@ fn refusal_14_storage_start() {
         };
         assert_eq!(name::check(&table), expected, "{start}");
     }
-    // 14 comes before 15.
-    let mut table = name0(&[[0, 0, 0, 0, 9, 9]], &[]);
-    put(&mut table, 4, 17);
-    assert_eq!(name::check(&table), no(14));
-    put(&mut table, 4, 18);
+    // 14 comes before 15 and 27.
+    for (offset, number) in [(9, 15), (0, 27)] {
+        let mut table = name0(&[[0, 0, 0, 0, 9, offset]], &[]);
+        put(&mut table, 4, 17);
+        assert_eq!(name::check(&table), no(14));
+        put(&mut table, 4, 18);
+        assert_eq!(name::check(&table), no_at(number, 0));
+    }
+}
+
+/// The check of one record with this length and offset, on a storage of so many
+/// bytes.
+fn string_in(storage: usize, length: u16, offset: u16) -> Result<(), Refusal> {
+    name::check(&name0(&[[0, 0, 0, 0, length, offset]], &vec![0; storage]))
+}
+
+#[test]
+fn refusal_27_string_runs_over() {
+    // A string ending on the last storage byte: accepted; one longer: 27.
+    assert_eq!(string_in(5, 3, 2), Ok(()));
+    assert_eq!(string_in(5, 4, 2), no_at(27, 0));
+    // From the first byte, from the last one, and from the end.
+    assert_eq!(string_in(5, 6, 0), no_at(27, 0));
+    assert_eq!(string_in(5, 2, 4), no_at(27, 0));
+    assert_eq!(string_in(5, 1, 5), no_at(27, 0));
+    assert_eq!(string_in(5, 65_535, 0), no_at(27, 0));
+    assert_eq!(string_in(5, 65_535, 5), no_at(27, 0));
+    // The sum doesn't wrap.
+    assert_eq!(string_in(5, 65_535, 1), no_at(27, 0));
+    assert_eq!(string_in(5, 65_535, 2), no_at(27, 0));
+    assert_eq!(string_in(5, 65_531, 5), no_at(27, 0));
+    assert_eq!(string_in(65_535, 2, 65_535), no_at(27, 0));
+    assert_eq!(string_in(65_536, 2, 65_535), no_at(27, 0));
+    assert_eq!(string_in(65_537, 2, 65_535), Ok(()));
+    // The largest sum, on a storage that holds it and on one that doesn't.
+    assert_eq!(string_in(131_070, 65_535, 65_535), Ok(()));
+    assert_eq!(string_in(131_069, 65_535, 65_535), no_at(27, 0));
+    // Storage counts from its start, not from the end of the records.
+    let mut table = name0(&[[0, 0, 0, 0, 3, 2]], &[0; 5]);
+    put(&mut table, 4, 19);
+    assert_eq!(name::check(&table), no_at(27, 0));
+}
+
+#[test]
+fn refusal_15_string_starts_beyond() {
+    // At the end an empty string is accepted; one beyond it nothing is.
+    assert_eq!(string_in(5, 0, 5), Ok(()));
+    assert_eq!(string_in(5, 0, 6), no_at(15, 0));
+    assert_eq!(string_in(5, 1, 6), no_at(15, 0));
+    assert_eq!(string_in(5, 65_535, 6), no_at(15, 0));
+    // The last offset there is, with any length: 65535 plus 2 doesn't wrap.
+    for length in [0, 1, 2, 3, 5, 6, 7, 65_534, 65_535] {
+        assert_eq!(string_in(5, length, 65_535), no_at(15, 0));
+        assert_eq!(string_in(65_534, length, 65_535), no_at(15, 0));
+    }
+    assert_eq!(string_in(65_535, 0, 65_535), Ok(()));
+    assert_eq!(string_in(65_535, 1, 65_535), no_at(27, 0));
+    // Storage counts from its start, not from the end of the records.
+    let mut table = name0(&[[0, 0, 0, 0, 0, 5]], &[0; 5]);
+    put(&mut table, 4, 19);
     assert_eq!(name::check(&table), no_at(15, 0));
 }
 
 #[test]
-fn refusal_15_string_passes_storage() {
-    // A string ending on the last storage byte: accepted; one longer: 15.
-    assert_eq!(name::check(&name0(&[[0, 0, 0, 0, 3, 2]], &[0; 5])), Ok(()));
-    assert_eq!(
-        name::check(&name0(&[[0, 0, 0, 0, 4, 2]], &[0; 5])),
-        no_at(15, 0)
-    );
-    // Empty strings: the offset may equal the storage's length, not pass it.
-    assert_eq!(name::check(&name0(&[[0, 0, 0, 0, 0, 5]], &[0; 5])), Ok(()));
-    assert_eq!(
-        name::check(&name0(&[[0, 0, 0, 0, 0, 6]], &[0; 5])),
-        no_at(15, 0)
-    );
-    // 65535 plus 2 doesn't wrap.
-    assert_eq!(
-        name::check(&name0(&[[0, 0, 0, 0, 2, 65_535]], &[0; 5])),
-        no_at(15, 0)
-    );
-    assert_eq!(
-        name::check(&name0(&[[0, 0, 0, 0, 65_535, 2]], &[0; 5])),
-        no_at(15, 0)
-    );
-    // The largest sum, on a storage that holds it and on one that doesn't.
-    let record = [0, 0, 0, 0, 65_535, 65_535];
-    assert_eq!(name::check(&name0(&[record], &vec![0; 131_070])), Ok(()));
-    assert_eq!(
-        name::check(&name0(&[record], &vec![0; 131_069])),
-        no_at(15, 0)
-    );
-    // Storage counts from its start, not from the end of the records.
-    let mut table = name0(&[[0, 0, 0, 0, 3, 2]], &[0; 5]);
-    put(&mut table, 4, 19);
-    assert_eq!(name::check(&table), no_at(15, 0));
+fn strings_without_storage() {
+    assert_eq!(string_in(0, 0, 0), Ok(()));
+    for length in [1, 2, 65_535] {
+        assert_eq!(string_in(0, length, 0), no_at(27, 0));
+    }
+    for offset in [1, 2, 65_535] {
+        for length in [0, 1, 65_535] {
+            assert_eq!(string_in(0, length, offset), no_at(15, 0));
+        }
+    }
+}
+
+/// Every offset and length about the end of small storages, at each of three
+/// records, in both formats.
+#[test]
+fn every_string_about_the_end() {
+    for storage in 0..=4_u16 {
+        let near: Vec<u16> = (0..=storage + 3).chain([65_534, 65_535]).collect();
+        for number in 0..3 {
+            for (&offset, &length) in near.iter().flat_map(|o| near.iter().map(move |l| (o, l))) {
+                let mut records = [[1, 0, 0, 1, 0, 0], [1, 0, 0, 2, 0, 0], [1, 0, 0, 3, 0, 0]];
+                records[number][4] = length;
+                records[number][5] = offset;
+                let place = number as u32;
+                let expected = if offset > storage {
+                    no_at(15, place)
+                } else if u32::from(offset) + u32::from(length) > u32::from(storage) {
+                    no_at(27, place)
+                } else {
+                    Ok(())
+                };
+                let bytes = vec![0; usize::from(storage)];
+                assert_eq!(name::check(&name0(&records, &bytes)), expected);
+                assert_eq!(name::check(&name1(&records, &[], &bytes)), expected);
+                // The same string of a tag gives 16, wherever it starts.
+                let mut tags = [[0, 0]; 3];
+                tags[number] = [length, offset];
+                let expected = expected.map_err(|_| Refusal {
+                    number: 16,
+                    carries: Some(place),
+                });
+                assert_eq!(name::check(&name1(&[[0; 6]], &tags, &bytes)), expected);
+            }
+        }
+    }
 }
 
 #[test]
@@ -170,22 +237,40 @@ fn refusal_16_tag_passes_storage() {
         name::check(&table(&[[0, 0], [0, 0], [2, 65_535]])),
         no_at(16, 2)
     );
+    // It is 16 where the string runs over and where it starts beyond the end.
+    assert_eq!(name::check(&table(&[[1, 5]])), no_at(16, 0));
+    assert_eq!(name::check(&table(&[[0, 6]])), no_at(16, 0));
+    assert_eq!(name::check(&table(&[[1, 6]])), no_at(16, 0));
+    assert_eq!(name::check(&table(&[[0, 65_535]])), no_at(16, 0));
+    assert_eq!(name::check(&table(&[[65_535, 0]])), no_at(16, 0));
     // Every record comes before every tag.
-    let late = name1(&[[0; 6], [0; 6]], &[[9, 9]], &[]);
+    for (record, number) in [
+        ([0, 0, 0, 0, 0, 0], 19),
+        ([0, 0, 0, 1, 1, 0], 27),
+        ([0, 0, 0, 1, 0, 1], 15),
+        ([0, 0, 0x8001, 1, 0, 0], 18),
+    ] {
+        for tag in [[9, 9], [1, 0], [0, 1]] {
+            let late = name1(&[[0; 6], record], &[tag], &[]);
+            assert_eq!(name::check(&late), no_at(number, 1));
+        }
+    }
+    let late = name1(&[[0, 0, 0, 1, 0, 0], [0; 6]], &[[9, 9]], &[]);
     assert_eq!(name::check(&late), no_at(17, 1));
+}
+
+/// A format 0 table with these keys and empty strings.
+fn keyed(keys: &[[u16; 4]]) -> Vec<u8> {
+    let records: Vec<Entry> = keys
+        .iter()
+        .map(|&[p, e, l, n]| [p, e, l, n, 0, 0])
+        .collect();
+    name0(&records, &[])
 }
 
 #[test]
 fn refusal_17_order_of_keys() {
-    let two = |a: [u16; 4], b: [u16; 4]| {
-        name0(
-            &[
-                [a[0], a[1], a[2], a[3], 0, 0],
-                [b[0], b[1], b[2], b[3], 0, 0],
-            ],
-            &[],
-        )
-    };
+    let two = |a: [u16; 4], b: [u16; 4]| keyed(&[a, b]);
     for part in 0..4 {
         let low = [5, 5, 5, 5];
         let mut high = low;
@@ -195,16 +280,74 @@ fn refusal_17_order_of_keys() {
         assert_eq!(name::check(&two(low, high)), Ok(()));
         assert_eq!(name::check(&two(high, low)), no_at(17, 1));
     }
-    assert_eq!(name::check(&two([5; 4], [5; 4])), no_at(17, 1));
     // Each record is compared with the one before it.
-    let three = name0(
-        &[[1, 0, 0, 0, 0, 0], [3, 0, 0, 0, 0, 0], [2, 0, 0, 0, 0, 0]],
-        &[],
-    );
+    let three = keyed(&[[1, 0, 0, 0], [3, 0, 0, 0], [2, 0, 0, 0]]);
     assert_eq!(name::check(&three), no_at(17, 2));
+    // Equal to the one two before it is below the one before it.
+    let three = keyed(&[[1, 0, 0, 0], [3, 0, 0, 0], [1, 0, 0, 0]]);
+    assert_eq!(name::check(&three), no_at(17, 2));
+}
+
+#[test]
+fn refusal_19_equal_keys() {
+    for key in [[0; 4], [5; 4], [240, 0, 65_535, 65_535], [255; 4]] {
+        assert_eq!(name::check(&keyed(&[key, key])), no_at(19, 1));
+        assert_eq!(name::check(&keyed(&[key, key, key])), no_at(19, 1));
+    }
+    // Keys that differ in one part alone are not equal.
+    for part in 0..4 {
+        let mut higher = [5; 4];
+        higher[part] = 6;
+        assert_eq!(name::check(&keyed(&[[5; 4], higher])), Ok(()));
+        assert_eq!(name::check(&keyed(&[higher, [5; 4]])), no_at(17, 1));
+    }
+    // At a later record.
+    let three = keyed(&[[1, 0, 0, 0], [2, 0, 0, 0], [2, 0, 0, 0]]);
+    assert_eq!(name::check(&three), no_at(19, 2));
     // Length and offset are no part of the key.
-    let same = name0(&[[1, 1, 1, 1, 0, 0], [1, 1, 1, 1, 1, 1]], &[0, 0]);
-    assert_eq!(name::check(&same), no_at(17, 1));
+    for string in [[0, 0], [1, 1], [2, 0]] {
+        let [length, offset] = string;
+        let same = name0(&[[1, 1, 1, 1, 0, 0], [1, 1, 1, 1, length, offset]], &[0, 0]);
+        assert_eq!(name::check(&same), no_at(19, 1));
+    }
+}
+
+/// The first record that is not above the one before it says which it is.
+#[test]
+fn equal_and_falling_keys() {
+    let (low, middle, high) = ([1, 0, 0, 5], [1, 0, 0, 6], [1, 0, 1, 0]);
+    // Equal keys behind falling ones.
+    assert_eq!(name::check(&keyed(&[middle, low, low])), no_at(17, 1));
+    assert_eq!(
+        name::check(&keyed(&[low, high, middle, middle])),
+        no_at(17, 2)
+    );
+    assert_eq!(
+        name::check(&keyed(&[high, middle, high, high])),
+        no_at(17, 1)
+    );
+    // Falling keys behind equal ones.
+    assert_eq!(name::check(&keyed(&[middle, middle, low])), no_at(19, 1));
+    assert_eq!(
+        name::check(&keyed(&[low, high, high, middle])),
+        no_at(19, 2)
+    );
+    // Every table of up to four keys out of these three.
+    for count in 0..=4_u32 {
+        for choice in 0..3_usize.pow(count) {
+            let chosen: Vec<usize> = (0..count).map(|n| choice / 3_usize.pow(n) % 3).collect();
+            let keys: Vec<[u16; 4]> = chosen.iter().map(|&n| [low, middle, high][n]).collect();
+            let mut expected = Ok(());
+            for later in (1..chosen.len()).rev() {
+                match chosen[later].cmp(&chosen[later - 1]) {
+                    std::cmp::Ordering::Less => expected = no_at(17, later as u32),
+                    std::cmp::Ordering::Equal => expected = no_at(19, later as u32),
+                    std::cmp::Ordering::Greater => {}
+                }
+            }
+            assert_eq!(name::check(&keyed(&keys)), expected, "{keys:?}");
+        }
+    }
 }
 
 #[test]
@@ -256,17 +399,53 @@ fn refusal_18_tag_count_does_not_wrap() {
 
 #[test]
 fn order_at_one_record() {
-    // All three at record 1: 15, then 18, then 17.
+    // At record 1: 15 or 27, then 18, then 17 or 19.
     let table = |record| name0(&[[5, 0, 0, 0, 0, 0], record], &[]);
-    assert_eq!(name::check(&table([1, 0, 0x8000, 0, 1, 0])), no_at(15, 1));
+    for (number, length, offset) in [(15, 0, 1), (15, 1, 1), (15, 2, 65_535), (27, 1, 0)] {
+        let at = |platform, language| table([platform, 0, language, 0, length, offset]);
+        // All three, each two, and the string alone.
+        assert_eq!(name::check(&at(1, 0x8000)), no_at(number, 1));
+        assert_eq!(name::check(&at(6, 0x8000)), no_at(number, 1));
+        assert_eq!(name::check(&at(1, 0)), no_at(number, 1));
+        assert_eq!(name::check(&at(5, 0)), no_at(number, 1));
+        assert_eq!(name::check(&at(6, 0)), no_at(number, 1));
+    }
     assert_eq!(name::check(&table([1, 0, 0x8000, 0, 0, 0])), no_at(18, 1));
+    assert_eq!(name::check(&table([6, 0, 0x8000, 0, 0, 0])), no_at(18, 1));
     assert_eq!(name::check(&table([1, 0, 0, 0, 0, 0])), no_at(17, 1));
-    // An earlier record's later number comes before a later record's 15.
-    let table = name0(
-        &[[1, 0, 0, 0, 0, 0], [1, 0, 0, 0, 0, 0], [2, 0, 0, 0, 9, 0]],
-        &[],
-    );
-    assert_eq!(name::check(&table), no_at(17, 1));
+    assert_eq!(name::check(&table([5, 0, 0, 0, 0, 0])), no_at(19, 1));
+    assert_eq!(name::check(&table([6, 0, 0, 0, 0, 0])), Ok(()));
+    // A key equal to the one before it has the same language, so 18 is told at
+    // the record before.
+    let same = name0(&[[5, 0, 0x8000, 0, 0, 0]; 2], &[]);
+    assert_eq!(name::check(&same), no_at(18, 0));
+}
+
+/// Puts a fault into a record, which stands behind another one.
+type Fault = fn(Entry, Entry) -> Entry;
+
+/// A faulty record behind a faulty one: the earlier record comes first, whatever
+/// the numbers are.
+#[test]
+fn the_first_faulty_record_is_told() {
+    // Records 1 and 3 of four, each with one fault; 17 and 19 are about the
+    // record before it.
+    let faults: [(u32, Fault); 5] = [
+        (15, |[p, e, l, n, ..], _| [p, e, l, n, 0, 1]),
+        (27, |[p, e, l, n, ..], _| [p, e, l, n, 1, 0]),
+        (18, |[p, e, _, n, ..], _| [p, e, 0x8000, n, 0, 0]),
+        (17, |_, [p, e, l, ..]| [p, e, l, 1, 0, 0]),
+        (19, |_, before| before),
+    ];
+    for (first, fault) in faults {
+        for (second, other) in faults {
+            let mut records = [1, 2, 3, 4].map(|platform| [platform, 0, 0, 2, 0, 0]);
+            records[3] = other(records[3], records[2]);
+            assert_eq!(name::check(&name0(&records, &[])), no_at(second, 3));
+            records[1] = fault(records[1], records[0]);
+            assert_eq!(name::check(&name0(&records, &[])), no_at(first, 1));
+        }
+    }
 }
 
 #[test]
@@ -336,7 +515,9 @@ fn naive_check(bytes: &[u8]) -> Result<(), Refusal> {
         let n = n as u32;
         keys.push(w[..4].iter().fold(0, |key, &part| key << 16 | part as u64));
         if !lies(w[5], w[4]) {
-            broken.push((0, n, 0, 15));
+            // A string that starts beyond the end doesn't lie in storage even
+            // without its bytes.
+            broken.push((0, n, 0, if lies(w[5], 0) { 27 } else { 15 }));
         }
         let high = w[2] & 0x8000 != 0;
         let private = w[0] >> 4 == 15;
@@ -349,7 +530,8 @@ fn naive_check(bytes: &[u8]) -> Result<(), Refusal> {
     }
     for n in 1..keys.len() {
         if keys[n - 1] >= keys[n] {
-            broken.push((0, n as u32, 2, 17));
+            let number = if keys[n - 1] == keys[n] { 19 } else { 17 };
+            broken.push((0, n as u32, 2, number));
         }
     }
     for n in 0..tag_count {
@@ -429,23 +611,64 @@ fn check_agrees_with_the_naive_check() {
             .entry(result.err().map_or(0, |r| r.number))
             .or_insert(0) += 1;
     }
-    for number in [0, 10, 11, 12, 13, 14, 15, 16, 17, 18] {
+    for number in [0, 10, 11, 12, 13, 14, 15, 16, 17, 18, 19, 27] {
         assert!(seen.get(&number).is_some_and(|&n| n > 50), "{seen:?}");
     }
+}
+
+/// Every question gives this refusal, whatever is asked for.
+fn passed_on(table: &[u8], refusal: Refusal) {
+    assert_eq!(name::check(table), Err(refusal));
+    assert_eq!(name::read(table), Err(refusal));
+    assert_eq!(name::lookup(table, 1, 0, 0, 6), Err(refusal));
+    assert_eq!(name::lookup(table, 1, 0, 0, 5), Err(refusal));
+    assert_eq!(name::lookup(table, 65_536, 0, 0, 0), Err(refusal));
+    assert_eq!(name::postscript(table), Err(refusal));
+    assert_eq!(name::version(table), Err(refusal));
 }
 
 #[test]
 fn every_question_passes_on_the_refusal() {
     let mut numbers = Numbers::new(3);
+    let mut seen = std::collections::BTreeMap::new();
     for _ in 0..50_000 {
         let table = any_table(&mut numbers);
         if let Err(refusal) = name::check(&table) {
-            assert_eq!(name::read(&table), Err(refusal));
-            assert_eq!(name::lookup(&table, 1, 0, 0, 6), Err(refusal));
-            assert_eq!(name::lookup(&table, 65_536, 0, 0, 0), Err(refusal));
-            assert_eq!(name::postscript(&table), Err(refusal));
-            assert_eq!(name::version(&table), Err(refusal));
+            passed_on(&table, refusal);
+            *seen.entry(refusal.number).or_insert(0) += 1;
         }
+    }
+    for number in (10..20).chain([27]) {
+        assert!(seen.get(&number).is_some_and(|&n| n > 5), "{seen:?}");
+    }
+}
+
+/// Records that would answer every question, and one fault in the last of them.
+#[test]
+fn every_question_passes_on_what_is_wrong_with_a_record() {
+    let storage = b"Ab\0A\0b2.5\x002\0.\x005";
+    let records = [
+        [1, 0, 0, 5, 3, 6],
+        [1, 0, 0, 6, 2, 0],
+        [3, 1, 0x409, 5, 6, 9],
+        [3, 1, 0x409, 6, 4, 2],
+    ];
+    let fine = name0(&records, storage);
+    assert_eq!(name::postscript(&fine).map(|span| span.length), Ok(2));
+    assert_eq!(name::version(&fine), found(2, 5));
+    for (number, last) in [
+        (15, [3, 1, 0x409, 7, 0, 16]),
+        (15, [3, 1, 0x409, 7, 0, 65_535]),
+        (27, [3, 1, 0x409, 7, 1, 15]),
+        (27, [3, 1, 0x409, 7, 16, 0]),
+        (17, [3, 1, 0x409, 5, 6, 9]),
+        (17, [1, 0, 0, 6, 2, 0]),
+        (19, [3, 1, 0x409, 6, 4, 2]),
+        (18, [3, 1, 0x8000, 6, 4, 2]),
+    ] {
+        let table = name0(&[&records[..], &[last]].concat(), storage);
+        let carries = Some(4);
+        passed_on(&table, Refusal { number, carries });
     }
 }
 

@@ -12,10 +12,12 @@ use native.Mathlib.Omega.{arith}
 use Rattle.outcomes.specs.Firsts.{when, _then_}
 use Rattle.outcomes.specs.Outcomes.{Refusal, bare, Outcome, refused, answered, foundOr}
 use Rattle.outcomes.proofs.Laws.{Only, only-when, only-then, only-first}
+use Rattle.outcomes.proofs.Tests.{unequal}
 use Rattle.name_layout.specs.Keys.{Key, keyFrom}
 use Rattle.name_layout.specs.Layout.{bytesOf}
 use Rattle.name_search.specs.Searches.{recordWith, textOf}
-use Rattle.name.specs.Acceptance.{layoutFault, recordFault, tagFault, faults, checkOf}
+use Rattle.name.specs.Acceptance.{faults, checkOf}
+use Rattle.name.proofs.Acceptances.{not-tables}
 use Rattle.name_lookup.specs.Answers.{lookupOf}
 use Rattle.name_answers.specs.Forms.{otherAt, illFormed, differAt, differ}
 use Rattle.name_answers.specs.Names.{fromStrings, fromBoth, postscriptOf}
@@ -59,14 +61,7 @@ both : (a b : Option Refusal) → Only Numbered a → Only Numbered b → Only N
 both a b p q = only-then Numbered a b p q
 
 faults-numbered : (t : List ℕ) → Only Numbered (faults t)
-unfolding faults layoutFault recordFault tagFault
-faults-numbered t = both _ _ layout (both _ _ (only-first Numbered _ _ each) (only-first Numbered _ _ (λ i. one _ _ refl)))
-  where
-    layout : Only Numbered (layoutFault t)
-    layout = both _ _ (one _ _ refl) (both _ _ (one _ _ refl) (both _ _ (one _ _ refl) (both _ _ (one _ _ refl) (one _ _ refl))))
-
-    each : (i : ℕ) → Only Numbered (recordFault t i)
-    each i = both _ _ (one _ _ refl) (both _ _ (one _ _ refl) (one _ _ refl))
+faults-numbered t r e = unequal (r .number) 0 .1 (not-tables t 0 refl r e)
 
 ill-numbered : (wide : Bool) (bytes : List ℕ) → Only Numbered (illFormed wide bytes)
 unfolding illFormed otherAt

@@ -1,5 +1,5 @@
 // The reader, the comparison and the writer for C and Rust: the functions of the static library, each answering in plain numbers.
-// Document 01, whole, and document 02, Ask 2; `include/gyalvindor.h` says the same to a C programmer.
+// Document 01, whole, and document 02, Asks 1 to 3; `include/gyalvindor.h` says the same to a C programmer.
 // Relies on `name`, `name_lookup` and `name_strings`, on `os2` and `os2_writer`, on `name_compare` and `os2_compare`, which answer, and on `name_words`,
 // `os2_words` and `compare_words`, which put an answer into words of C.
 ghost use mathlib.Core.Path.{_≡_};

@@ -14,8 +14,8 @@ use Rattle.outcomes.specs.Outcomes.{bare, carrying}
 use Rattle.lines.specs.Numerals.{digits, decimal}
 use Rattle.lines.specs.Lines.{refusalLine, tooLong, listed}
 
--- "the one line `refused 17 at 1`. Without a place: `refused 11`"
-pub refusals-read : map refusalLine (carrying 17 1 ∷ bare 11 ∷ carrying 15 65535 ∷ []) ≡ codes "refused 17 at 1\n" ∷ codes "refused 11\n" ∷ codes "refused 15 at 65535\n" ∷ []
+-- the one line "`refused 19 at 1`" (document 02, Ask 3). "Without a place: `refused 11`"
+pub refusals-read : map refusalLine (carrying 19 1 ∷ bare 11 ∷ carrying 15 65535 ∷ []) ≡ codes "refused 19 at 1\n" ∷ codes "refused 11\n" ∷ codes "refused 15 at 65535\n" ∷ []
 unfolding digits decimal
 refusals-read = refl
 

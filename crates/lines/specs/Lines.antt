@@ -19,7 +19,7 @@ lineOf l = take (l .len) (l .bytes)
 abbrev pub numbered : String → ℕ → List ℕ
 numbered text n = codes text ++ decimal n
 
--- "the one line `refused 17 at 1`. Without a place: `refused 11`"
+-- the one line "`refused 19 at 1`" (document 02, Ask 3). "Without a place: `refused 11`"
 abbrev pub refusedLine : ℕ → Option ℕ → List ℕ
 refusedLine n (some k) = numbered "refused " n ++ numbered " at " k ++ codes "\n"
 refusedLine n none = numbered "refused " n ++ codes "\n"

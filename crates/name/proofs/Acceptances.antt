@@ -3,24 +3,23 @@
 use Prim.Native.Nat.{ℕ, zero, suc, _+_, _-_, _/_, _%_, _≤_, _<_}
 use mathlib.Core.Path.{_≡_, refl, sym, _∙_, ap}
 use mathlib.Core.Logic.{_↔_}
-use mathlib.Core.Bool.{Bool, true, false}
+use mathlib.Core.Bool.{Bool, true, false, _&&_, _||_, false≢true}
 use mathlib.Core.Option.{Option, none, some}
 use mathlib.Core.List.{List}
 use native.Mathlib.Omega.{arith}
-use lib.Dec.{leb}
+use lib.Dec.{leb, eqb}
 use lib.ListN.{length}
 use borrow.Author.Count.{below-more}
 use Rattle.bigendian.specs.Numbers.{number, Bytes}
 use Rattle.outcomes.specs.Firsts.{when}
 use Rattle.outcomes.specs.Outcomes.{Refusal, Outcome, refused, accepted, unless}
 use Rattle.outcomes.proofs.Laws.{when-none, then-none, passed, first-all, unless-answered, unless-refused, unless-own, Only, only-when, only-then, only-first}
-use Rattle.outcomes.proofs.Tests.{at-most}
 use Rattle.name_layout.specs.Layout.{count, storage, recordAt, textAt, tagCount, tagAt, stringEnd}
 use Rattle.name_layout.specs.Keys.{keyOf, packed}
 use Rattle.name_layout.proofs.Keys.{key-small, packed-order, key-language, text-halves}
-use Rattle.name_tests.specs.Tests.{stringPasses, languageRefused, notAbove}
+use Rattle.name_tests.specs.Tests.{languageRefused}
 use Rattle.name_tests.specs.Steps.{Framed}
-use Rattle.name_tests.proofs.Tests.{long, format-known, records-within, tags-within, storage-placed, string-fits, above, language-below}
+use Rattle.name_tests.proofs.Tests.{long, format-known, records-within, tags-within, storage-placed, Held, string-held, string-fits, Rises, above, language-below}
 use Rattle.name.specs.declared.Refusal as code
 use Rattle.name.specs.declared.Verdict.{Verdict}
 use Rattle.name.specs.declared.Verdict.the-variants.{Accepted, Refused}
@@ -28,20 +27,24 @@ use Rattle.name.specs.Refusals.{saidRefusal, saidCheck}
 use Rattle.name.specs.Acceptance.{layoutFault, recordFault, tagFault, faults, checkOf}
 use Rattle.name.specs.Refusing.{Laid}
 
--- none of 15, 18, 17, by their tests
+-- none of 15, 27, 18, 17, 19, by their tests
 pub record Sound (t : List ℕ) (i : ℕ) : Type 0 where
-  pub string : stringPasses t (textAt i) ≡ false
+  pub string : Held t (textAt i)
   pub language : languageRefused t i ≡ false
-  pub order : notAbove t i ≡ false
+  pub order : Rises t i
 
--- none of 10 to 18
+-- none of 10 to 19 and 27
 pub record Passed (t : List ℕ) : Type 0 where
   pub laid : Laid t
   pub sound : (i : ℕ) → i < count t → Sound t i
   pub tags : (i : ℕ) → i < tagCount t → stringEnd t (tagAt t i) ≤ length t
 
-abbrev pub Low : Refusal → Type 0
-Low r = r .number ≤ 18
+-- the numbers of a table's refusals: those of a question itself are others, and none is 0
+abbrev pub tables : ℕ → Bool
+tables n = (leb 10 n && leb n 19) || eqb n 27
+
+abbrev Numbered : Refusal → Type 0
+Numbered r = tables (r .number) ≡ true
 
 module _ (t : List ℕ) where
   pub layout-none : (layoutFault t ≡ none) ↔ Laid t
@@ -72,9 +75,11 @@ module _ (t : List ℕ) where
     (λ e.
         let a = passed _ _ _ .0 e in
         let b = passed _ _ _ .0 (a .1) in
-        let c = when-none _ _ .0 (b .1) in
-        record { string = search; language = search; order = search }),
-    λ s. passed _ _ _ .1 (search, passed _ _ _ .1 (search, when-none _ _ .1 search)),
+        let c = passed _ _ _ .0 (b .1) in
+        let d = passed _ _ _ .0 (c .1) in
+        let f = when-none _ _ .0 (d .1) in
+        record { string = (search, search); language = search; order = (search, search) }),
+    λ s. passed _ _ _ .1 (search, passed _ _ _ .1 (search, passed _ _ _ .1 (search, passed _ _ _ .1 (search, when-none _ _ .1 search)))),
   )
 
   pub tag-none : (i : ℕ) → (tagFault t i ≡ none) ↔ (stringEnd t (tagAt t i) ≤ length t)
@@ -98,25 +103,30 @@ module _ (t : List ℕ) where
         then-none _ _ .1 (layout-none .1 (k .laid), then-none _ _ .1 (r, s)),
   )
 
-  -- the numbers are at most 18, so 20 and above come from a question itself
-  pub at-most-18 : Only Low (faults t)
+  numbered : Only Numbered (faults t)
   unfolding faults layoutFault recordFault tagFault
-  at-most-18 =
-      only-then Low _ _ layout (only-then Low _ _ (only-first Low _ _ each) (only-first Low _ _ (λ i. low _ _ refl)))
+  numbered =
+      only-then Numbered _ _ layout (only-then Numbered _ _ (only-first Numbered _ _ each) (only-first Numbered _ _ (λ i. one _ _ refl)))
     where
-      low : (test : Bool) (r : Refusal) → leb (r .number) 18 ≡ true → Only Low (when test r)
-      low test r e = only-when Low test r (at-most (r .number) 18 .0 e)
+      one : (test : Bool) (r : Refusal) → tables (r .number) ≡ true → Only Numbered (when test r)
+      one test r e = only-when Numbered test r e
 
-      layout : Only Low (layoutFault t)
+      layout : Only Numbered (layoutFault t)
       layout =
-          only-then Low _ _ (low _ _ refl) (only-then Low _ _ (low _ _ refl)
-          (only-then Low _ _ (low _ _ refl) (only-then Low _ _ (low _ _ refl) (low _ _ refl))))
+          only-then Numbered _ _ (one _ _ refl) (only-then Numbered _ _ (one _ _ refl)
+          (only-then Numbered _ _ (one _ _ refl) (only-then Numbered _ _ (one _ _ refl) (one _ _ refl))))
 
-      each : (i : ℕ) → Only Low (recordFault t i)
-      each i = only-then Low _ _ (low _ _ refl) (only-then Low _ _ (low _ _ refl) (low _ _ refl))
+      each : (i : ℕ) → Only Numbered (recordFault t i)
+      each i =
+          only-then Numbered _ _ (one _ _ refl) (only-then Numbered _ _ (one _ _ refl)
+          (only-then Numbered _ _ (one _ _ refl) (only-then Numbered _ _ (one _ _ refl) (one _ _ refl))))
 
-  pub own : {A : Type 0} (o : Outcome A) (n : ℕ) {c : Option ℕ} → 18 < n → (unless (faults t) o ≡ refused n c) ↔ ((faults t ≡ none) × (o ≡ refused n c))
-  own o n l = unless-own (faults t) o (λ r e d. omega (arith, at-most-18 r e))
+  -- a number that is no table's does not come from the table
+  pub not-tables : (n : ℕ) → tables n ≡ false → (r : Refusal) → faults t ≡ some r → r .number ≡ n → ⊥
+  not-tables n l r e d = false≢true (sym l ∙ ap tables (sym d) ∙ numbered r e)
+
+  pub own : {A : Type 0} (o : Outcome A) (n : ℕ) {c : Option ℕ} → tables n ≡ false → (unless (faults t) o ≡ refused n c) ↔ ((faults t ≡ none) × (o ≡ refused n c))
+  own o n l = unless-own (faults t) o (not-tables n l)
 
   pub framed : Laid t → Framed t
   framed l = record { front = l .long; records = l .records; tags = l .tags }
@@ -146,16 +156,16 @@ module _ (t : List ℕ) where
     keys-rise b i h = packed-order (key-small t b i) (key-small t b (suc i)) .1 (above t i .0 (no-fault .0 e .sound (suc i) h .order))
 
     pub string-inside : (i : ℕ) → i < count t → stringEnd t (textAt i) ≤ length t
-    string-inside i h = string-fits t (textAt i) .0 (no-fault .0 e .sound i h .string)
+    string-inside i h = string-held t (textAt i) .0 (no-fault .0 e .sound i h .string)
 
 -- ---- the quick pass
 
 module _ (t : List ℕ) where
-  -- no 17 at the first n records
+  -- none of 17 and 19 at the first n records
   abbrev pub Rise : ℕ → Type 0
-  Rise n = (i : ℕ) → i < n → notAbove t i ≡ false
+  Rise n = (i : ℕ) → i < n → Rises t i
 
-  -- none of 15 and 18 at the first n records
+  -- none of 15, 27 and 18 at the first n records
   abbrev pub FitAndSpeak : ℕ → Type 0
   FitAndSpeak n = (i : ℕ) → i < n → (stringEnd t (textAt i) ≤ length t) × (languageRefused t i ≡ false)
 
@@ -168,7 +178,7 @@ module _ (t : List ℕ) where
 
   -- both together leave no record's fault
   pub faultless : (n : ℕ) → Rise n → FitAndSpeak n → (i : ℕ) → i < n → recordFault t i ≡ none
-  faultless n f g i h = record-none t i .1 (record { string = string-fits t (textAt i) .1 (g i h .0); language = g i h .1; order = f i h })
+  faultless n f g i h = record-none t i .1 (record { string = string-held t (textAt i) .1 (g i h .0); language = g i h .1; order = f i h })
 
   -- a record by its key's number and its string's: the language in the key below 0x8000 plus the tag count, the string within the table
   pub in-limits : Bytes t → (j : ℕ) {key text : ℕ} → key ≡ packed (keyOf t j) → text ≡ number 4 t (textAt j)

@@ -11,8 +11,7 @@ use Rattle.outcomes.specs.Outcomes.{accepted}
 use Rattle.outcomes.proofs.Laws.{unless-answered}
 use Rattle.name_layout.specs.Layout.{count, textAt}
 use Rattle.name_layout.proofs.Layouts.{tags-after, word-lt}
-use Rattle.name_tests.specs.Tests.{notAbove}
-use Rattle.name_tests.proofs.Tests.{string-fits, first-above, above, language-fits}
+use Rattle.name_tests.proofs.Tests.{string-held, Rises, first-above, above, language-fits}
 use Rattle.name.specs.Acceptance.{faults, checkOf}
 use Rattle.name.specs.Acceptable.{Acceptable, AcceptedExactlyWhen, AtMost5460}
 use Rattle.name.proofs.Acceptances.{Passed, no-fault}
@@ -29,7 +28,7 @@ acceptable t = (λ e. forth (no-fault t .0 e), λ a. no-fault t .1 (back a))
           tags = k .laid .tags;
           after = k .laid .placed .0;
           within = k .laid .placed .1;
-          strings = λ i h. string-fits t (textAt i) .0 (k .sound i h .string);
+          strings = λ i h. string-held t (textAt i) .0 (k .sound i h .string);
           tagStrings = k .tags;
           rising = λ i h. above t i .0 (k .sound (suc i) h .order);
           languages = λ i h. language-fits t i (k .laid .known) .0 (k .sound i h .language);
@@ -40,14 +39,14 @@ acceptable t = (λ e. forth (no-fault t .0 e), λ a. no-fault t .1 (back a))
         record {
           laid = record { long = a .long; known = a .known; records = a .records; tags = a .tags; placed = (a .after, a .within) };
           sound = λ i h. record {
-            string = string-fits t (textAt i) .1 (a .strings i h);
+            string = string-held t (textAt i) .1 (a .strings i h);
             language = language-fits t i (a .known) .1 (a .languages i h);
             order = order i h;
           };
           tags = a .tagStrings;
         }
       where
-        order : (i : ℕ) → i < count t → notAbove t i ≡ false
+        order : (i : ℕ) → i < count t → Rises t i
         order zero h = first-above t
         order (suc i) h = above t i .1 (a .rising i h)
 

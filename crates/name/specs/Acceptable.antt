@@ -10,7 +10,7 @@ use Rattle.name_layout.specs.Layout.{format, count, storage, textAt, recordsEnd
 use Rattle.name_layout.specs.Keys.{keyOf, KeyBelow}
 use Rattle.name_tests.specs.Languages.{LanguageAllowed}
 
--- none of the conditions of 10 to 18 holds, in the order of their numbers
+-- none of the conditions of 10 to 19 and 27 holds
 pub record Acceptable (t : List ℕ) : Type 0 where
   pub long : 6 ≤ length t
   pub known : (format t ≡ 0) ⊎ (format t ≡ 1)

@@ -1,5 +1,6 @@
 // The check of a 'name' table: whether it is accepted, and why not.
-// Document 01, the refusals 10 to 18 in their order. It relies on the test of each, on the table's layout and on the shared words for a refusal.
+// Document 01, the refusals 10 to 18 in their order, and document 02, Ask 3, which splits 15 and 17. It relies on the test of each, on the table's layout
+// and on the shared words for a refusal.
 ghost use mathlib.Core.Path.{_≡_};
 ghost use mathlib.Core.Bool.{true, false};
 ghost use mathlib.Core.Option.{none};
@@ -14,10 +15,12 @@ use name_layout::key_at;
 use name_layout::record_count;
 use name_layout::storage_start;
 use name_layout::tag_count;
+use name_tests::equals_before;
 use name_tests::language_refused;
 use name_tests::not_above;
 use name_tests::other_format;
 use name_tests::records_pass;
+use name_tests::starts_beyond;
 use name_tests::storage_misplaced;
 use name_tests::string_passes;
 use name_tests::tags_pass;
@@ -37,14 +40,18 @@ pub enum Refusal {
     TagsPastEnd,
     // 14: the storage starts before the end of the records and tags, or past the table's end.
     StorageMisplaced,
-    // 15: this record's string passes the end of storage.
-    RecordString(usize),
+    // 15: this record's string starts beyond the end of storage.
+    StringBeyond(usize),
     // 16: this tag's string passes the end of storage.
     TagString(usize),
-    // 17: this record's key isn't above the one before it.
-    KeyNotAbove(usize),
+    // 17: this record's key is below the one before it.
+    KeyBelow(usize),
     // 18: this record's language number is not allowed.
     LanguageRefused(usize),
+    // 19: this record's key is equal to the one before it.
+    KeyEqual(usize),
+    // 27: this record's string starts within storage or at its end, and runs over.
+    StringRunsOver(usize),
 }
 
 // What the check of a table says.
@@ -79,7 +86,7 @@ impl Refusal {
                 number: 14,
                 carried: Carried::Nothing,
             },
-            Refusal::RecordString(i) => Told {
+            Refusal::StringBeyond(i) => Told {
                 number: 15,
                 carried: Carried::This(i),
             },
@@ -87,12 +94,20 @@ impl Refusal {
                 number: 16,
                 carried: Carried::This(i),
             },
-            Refusal::KeyNotAbove(i) => Told {
+            Refusal::KeyBelow(i) => Told {
                 number: 17,
                 carried: Carried::This(i),
             },
             Refusal::LanguageRefused(i) => Told {
                 number: 18,
+                carried: Carried::This(i),
+            },
+            Refusal::KeyEqual(i) => Told {
+                number: 19,
+                carried: Carried::This(i),
+            },
+            Refusal::StringRunsOver(i) => Told {
+                number: 27,
                 carried: Carried::This(i),
             },
         }
@@ -229,19 +244,26 @@ fn tag_faults(table: &[u8]) -> Verdict
     Verdict::Accepted
 }
 
-// The first fault of record i: 15, 18, 17.
+// The first fault of record i: 15 or 27, 18, 17 or 19.
 fn record_fault(table: &[u8], i: usize) -> Verdict
     requires { ⌜ Framed (now table) × (i < count (now table)) ⌝ }
     ensures { λ r. ⌜ saidFault r ≡ recordFault (now (table .entry)) i ⌝ }
 {
-    if string_passes(table, name_layout::text_at(table, i)) {
-        return Verdict::Refused(Refusal::RecordString(i));
+    let at = name_layout::text_at(table, i);
+    if string_passes(table, at) {
+        if starts_beyond(table, at) {
+            return Verdict::Refused(Refusal::StringBeyond(i));
+        }
+        return Verdict::Refused(Refusal::StringRunsOver(i));
     }
     if language_refused(table, i) {
         return Verdict::Refused(Refusal::LanguageRefused(i));
     }
     if not_above(table, i) {
-        return Verdict::Refused(Refusal::KeyNotAbove(i));
+        if equals_before(table, i) {
+            return Verdict::Refused(Refusal::KeyEqual(i));
+        }
+        return Verdict::Refused(Refusal::KeyBelow(i));
     }
     Verdict::Accepted
 }

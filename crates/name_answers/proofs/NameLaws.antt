@@ -1,6 +1,6 @@
 -- The definition of the PostScript question gives what document 01's propositions say: each way to an outcome is one of them, and leads back to it.
 -- Assumes nothing.
-use Prim.Native.Nat.{ℕ, _≤_}
+use Prim.Native.Nat.{ℕ}
 use mathlib.Core.Path.{_≡_, refl, sym, _∙_, ap}
 use mathlib.Core.Bool.{Bool, true, false}
 use mathlib.Core.Option.{Option, none, some}
@@ -17,7 +17,7 @@ use Rattle.name_layout.specs.Keys.{keyFrom}
 use Rattle.characters.specs.Strings.{characters}
 use Rattle.name.specs.Acceptance.{faults}
 use Rattle.name.specs.Acceptable.{Acceptable}
-use Rattle.name.proofs.Acceptances.{at-most-18}
+use Rattle.name.proofs.Acceptances.{tables, not-tables}
 use Rattle.name.proofs.Theorems.{acceptable}
 use Rattle.name.proofs.Refusings.{refused-exactly}
 use Rattle.name_search.specs.declared.Text.{Text}
@@ -157,9 +157,8 @@ Says t (refused n c) =
 
 says : (t : List ℕ) {o : Outcome Text} → Way t o → Says t o
 says t (refusal {r} a) =
-    let l : r .number ≤ 18 = at-most-18 t r a in
-    let n = r .number in
-    rw (ne-eqb n 21 (λ e. omega arith), ne-eqb n 22 (λ e. omega arith), ne-eqb n 23 (λ e. omega arith), ne-eqb n 24 (λ e. omega arith)) tt
+    let other : (n : ℕ) → tables n ≡ false → eqb (r .number) n ≡ false = λ n l. ne-eqb _ n (not-tables t n l r a) in
+    rw (other 21 refl, other 22 refl, other 23 refl, other 24 refl) tt
 says t (name w) = w
 says t (none-there w) = w
 says t (one-there w) = w

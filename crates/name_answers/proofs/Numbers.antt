@@ -1,4 +1,4 @@
--- The refusals of the two questions, each with its number and what it carries, written out as document 01's table has them: by computing.
+-- The refusals of the two questions, each with its number and what it carries, written out as document 01's table and Ask 3 have them: by computing.
 -- Assumes nothing.
 use Prim.Native.Nat.{ℕ}
 use mathlib.Core.Path.{_≡_, refl}
@@ -6,7 +6,7 @@ use mathlib.Core.Option.{Option, none, some}
 use mathlib.Core.List.{List, [], _∷_, map}
 use Rattle.outcomes.specs.Outcomes.{answered}
 use Rattle.name.specs.declared.Refusal.the-variants.{TooShort, UnknownFormat, RecordsPastEnd, TagsPastEnd, StorageMisplaced}
-use Rattle.name.specs.declared.Refusal.the-variants.{RecordString, TagString, KeyNotAbove, LanguageRefused}
+use Rattle.name.specs.declared.Refusal.the-variants.{StringBeyond, TagString, KeyBelow, LanguageRefused, KeyEqual, StringRunsOver}
 use Rattle.name.specs.declared.Refusal.{Refusal}
 use Rattle.name_answers.specs.declared.PostscriptRefusal.{PostscriptRefusal}
 use Rattle.name_answers.specs.declared.PostscriptRefusal.the-variants as Postscript·
@@ -16,16 +16,17 @@ use Rattle.name_answers.specs.declared.VersionAnswer.the-variants.{Numbe
 use Rattle.name_answers.specs.Names.{saidNameRefusal}
 use Rattle.name_answers.specs.Versions.{saidVersionRefusal, saidVersion}
 
--- the table's own, 10 to 18, are passed on with what they carry
+-- the table's own, 10 to 19 and 27, are passed on with what they carry
 abbrev tables : List Refusal
 tables =
-    TooShort ∷ UnknownFormat ∷ RecordsPastEnd ∷ TagsPastEnd ∷ StorageMisplaced ∷ RecordString 21 ∷ TagString 22 ∷ KeyNotAbove 23 ∷ LanguageRefused 24 ∷ []
+    TooShort ∷ UnknownFormat ∷ RecordsPastEnd ∷ TagsPastEnd ∷ StorageMisplaced
+    ∷ StringBeyond 21 ∷ TagString 22 ∷ KeyBelow 23 ∷ LanguageRefused 24 ∷ KeyEqual 25 ∷ StringRunsOver 26 ∷ []
 
 abbrev tableNumbers : List ℕ
-tableNumbers = 10 ∷ 11 ∷ 12 ∷ 13 ∷ 14 ∷ 15 ∷ 16 ∷ 17 ∷ 18 ∷ []
+tableNumbers = 10 ∷ 11 ∷ 12 ∷ 13 ∷ 14 ∷ 15 ∷ 16 ∷ 17 ∷ 18 ∷ 19 ∷ 27 ∷ []
 
 abbrev tableCarries : List (Option ℕ)
-tableCarries = none ∷ none ∷ none ∷ none ∷ none ∷ some 21 ∷ some 22 ∷ some 23 ∷ some 24 ∷ []
+tableCarries = none ∷ none ∷ none ∷ none ∷ none ∷ some 21 ∷ some 22 ∷ some 23 ∷ some 24 ∷ some 25 ∷ some 26 ∷ []
 
 pub name-table-numbers : map (λ r. saidNameRefusal (Postscript·.Table r) .number) tables ≡ tableNumbers
 name-table-numbers = refl

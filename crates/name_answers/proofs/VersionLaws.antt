@@ -13,7 +13,7 @@ use Rattle.name_layout.specs.Layout.{bytesOf}
 use Rattle.name_layout.specs.Keys.{keyFrom}
 use Rattle.name.specs.Acceptance.{faults}
 use Rattle.name.specs.Acceptable.{Acceptable}
-use Rattle.name.proofs.Acceptances.{at-most-18}
+use Rattle.name.proofs.Acceptances.{not-tables}
 use Rattle.name.proofs.Theorems.{acceptable}
 use Rattle.name.proofs.Refusings.{refused-exactly}
 use Rattle.name_search.specs.Searches.{recordWith}
@@ -89,14 +89,14 @@ module _ (t : List ℕ) where
       record { accepted = a; wide = wide; i = i; chosen = h; holds = text-right .found wide (bytesOf t i) _ _ .0 e }
 
   neither-from : {o : Outcome Figures} → Way t o → o ≡ refused 20 none → NoVersion t
-  neither-from (refusal {r} a) e = let z : r .number ≡ 20 = cc in absurd (omega (arith, at-most-18 t r a))
+  neither-from (refusal {r} a) e = let z : r .number ≡ 20 = cc in absurd (not-tables t 20 refl r a z)
   neither-from (neither-there a f s) e = (a, f, s)
   neither-from (string wide i a h) e =
       let r = refused-25 wide (bytesOf t i) e in
       let z : _≡_ {A = ℕ} 20 25 = cc in absurd (omega arith)
 
   lacks-from : {o : Outcome Figures} → Way t o → o ≡ refused 25 none → LacksNumber t
-  lacks-from (refusal {r} a) e = let z : r .number ≡ 25 = cc in absurd (omega (arith, at-most-18 t r a))
+  lacks-from (refusal {r} a) e = let z : r .number ≡ 25 = cc in absurd (not-tables t 25 refl r a z)
   lacks-from (neither-there a f s) e = let z : _≡_ {A = ℕ} 20 25 = cc in absurd (omega arith)
   lacks-from (string wide i a h) e =
       record { accepted = a; wide = wide; i = i; chosen = h; holds = text-right .missing wide (bytesOf t i) .0 e }

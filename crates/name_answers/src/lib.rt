@@ -26,7 +26,7 @@ use version_text::Version;
 
 // Why the PostScript question refuses.
 pub enum PostscriptRefusal {
-    // 10 to 18: the table's own refusal.
+    // 10 to 19 and 27: the table's own refusal.
     Table(Refusal),
     // 21: neither record is there.
     NoRecord,
@@ -47,7 +47,7 @@ pub enum PostscriptAnswer {
 
 // Why the version question refuses.
 pub enum VersionRefusal {
-    // 10 to 18: the table's own refusal.
+    // 10 to 19 and 27: the table's own refusal.
     Table(Refusal),
     // 20: neither record is there.
     NoRecord,

@@ -7,7 +7,7 @@ use native.Mathlib.Omega.{arith}
 use mathlib.Core.Option.{none, some}
 use mathlib.Core.List.{List, [], _∷_, map}
 use Rattle.name.specs.declared.Refusal.the-variants.{TooShort, UnknownFormat, RecordsPastEnd, TagsPastEnd, StorageMisplaced}
-use Rattle.name.specs.declared.Refusal.the-variants.{RecordString, TagString, KeyNotAbove, LanguageRefused}
+use Rattle.name.specs.declared.Refusal.the-variants.{StringBeyond, TagString, KeyBelow, LanguageRefused, KeyEqual, StringRunsOver}
 use Rattle.outcomes.specs.Outcomes.{bare, carrying}
 use Rattle.name_layout.specs.Keys.{keyFrom}
 use Rattle.comparing.specs.declared.Side.the-variants as Side·
@@ -21,21 +21,22 @@ use Rattle.name_compare.specs.Settled.{DifferenceBelow}
 
 abbrev refusals : List Refusal
 refusals =
-    Left TooShort ∷ Right UnknownFormat ∷ Left RecordsPastEnd ∷ Right TagsPastEnd ∷ Left StorageMisplaced ∷ Right (RecordString 21) ∷ Left (TagString 22)
-    ∷ Right (KeyNotAbove 23) ∷ Left (LanguageRefused 24) ∷ TooManyDifferences ∷ []
+    Left TooShort ∷ Right UnknownFormat ∷ Left RecordsPastEnd ∷ Right TagsPastEnd ∷ Left StorageMisplaced ∷ Right (StringBeyond 21) ∷ Left (TagString 22)
+    ∷ Right (KeyBelow 23) ∷ Left (LanguageRefused 24) ∷ Right (KeyEqual 25) ∷ Left (StringRunsOver 26) ∷ TooManyDifferences ∷ []
 
 pub sides : map (λ r. saidRefusal r .side) refusals
-    ≡ Side·.Left ∷ Side·.Right ∷ Side·.Left ∷ Side·.Right ∷ Side·.Left ∷ Side·.Right ∷ Side·.Left ∷ Side·.Right ∷ Side·.Left ∷ Side·.Neither ∷ []
+    ≡ Side·.Left ∷ Side·.Right ∷ Side·.Left ∷ Side·.Right ∷ Side·.Left ∷ Side·.Right ∷ Side·.Left ∷ Side·.Right ∷ Side·.Left ∷ Side·.Right ∷ Side·.Left
+    ∷ Side·.Neither ∷ []
 sides = refl
 
-pub numbers : map (λ r. saidRefusal r .refusal .number) refusals ≡ 10 ∷ 11 ∷ 12 ∷ 13 ∷ 14 ∷ 15 ∷ 16 ∷ 17 ∷ 18 ∷ 29 ∷ []
+pub numbers : map (λ r. saidRefusal r .refusal .number) refusals ≡ 10 ∷ 11 ∷ 12 ∷ 13 ∷ 14 ∷ 15 ∷ 16 ∷ 17 ∷ 18 ∷ 19 ∷ 27 ∷ 29 ∷ []
 numbers = refl
 
 pub carries : map (λ r. saidRefusal r .refusal .carried) refusals
-    ≡ none ∷ none ∷ none ∷ none ∷ none ∷ some 21 ∷ some 22 ∷ some 23 ∷ some 24 ∷ none ∷ []
+    ≡ none ∷ none ∷ none ∷ none ∷ none ∷ some 21 ∷ some 22 ∷ some 23 ∷ some 24 ∷ some 25 ∷ some 26 ∷ none ∷ []
 carries = refl
 
-pub answers : map saidCompared (Listed 7 ∷ Refused (Left (KeyNotAbove 1)) ∷ Refused (Right UnknownFormat) ∷ Refused TooManyDifferences ∷ [])
+pub answers : map saidCompared (Listed 7 ∷ Refused (Left (KeyBelow 1)) ∷ Refused (Right UnknownFormat) ∷ Refused TooManyDifferences ∷ [])
     ≡ listed 7 ∷ refused Side·.Left (carrying 17 1) ∷ refused Side·.Right (bare 11) ∷ refused Side·.Neither (bare 29) ∷ []
 answers = refl
 

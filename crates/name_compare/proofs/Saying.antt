@@ -7,7 +7,7 @@ use mathlib.Core.Option.{Option, none, some}
 use lib.Dec.{eqb}
 use Rattle.name.specs.declared.Refusal as names
 use Rattle.name.specs.declared.Refusal.the-variants.{TooShort, UnknownFormat, RecordsPastEnd, TagsPastEnd, StorageMisplaced}
-use Rattle.name.specs.declared.Refusal.the-variants.{RecordString, TagString, KeyNotAbove, LanguageRefused}
+use Rattle.name.specs.declared.Refusal.the-variants.{StringBeyond, TagString, KeyBelow, LanguageRefused, KeyEqual, StringRunsOver}
 use Rattle.name.specs.Refusals as refusals
 use Rattle.comparing.specs.declared.Side.the-variants as Side·
 use Rattle.comparing.specs.Comparisons.{Comparison, listed, refused}
@@ -18,7 +18,9 @@ use Rattle.name_compare.specs.Comparisons.{saidCompared}
 
 -- a table's refusal from its number and what it carries
 abbrev placed : ℕ → ℕ → names.Refusal
-placed n k = cond (eqb n 15) (RecordString k) (cond (eqb n 16) (TagString k) (cond (eqb n 17) (KeyNotAbove k) (LanguageRefused k)))
+placed n k =
+    cond (eqb n 15) (StringBeyond k) (cond (eqb n 16) (TagString k) (cond (eqb n 17) (KeyBelow k)
+    (cond (eqb n 18) (LanguageRefused k) (cond (eqb n 19) (KeyEqual k) (StringRunsOver k)))))
 
 abbrev whyOf : ℕ → Option ℕ → names.Refusal
 whyOf n (some k) = placed n k
@@ -30,10 +32,12 @@ why-back UnknownFormat = refl
 why-back RecordsPastEnd = refl
 why-back TagsPastEnd = refl
 why-back StorageMisplaced = refl
-why-back (RecordString k) = refl
+why-back (StringBeyond k) = refl
 why-back (TagString k) = refl
-why-back (KeyNotAbove k) = refl
+why-back (KeyBelow k) = refl
 why-back (LanguageRefused k) = refl
+why-back (KeyEqual k) = refl
+why-back (StringRunsOver k) = refl
 
 pub compared-once : (r s : Compared) → saidCompared r ≡ saidCompared s → r ≡ s
 compared-once r s e = sym (back r) ∙ (ap hear e ∙ back s)

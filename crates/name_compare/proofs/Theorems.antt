@@ -2,14 +2,13 @@
 -- Assumes nothing.
 use Prim.Native.Nat.{ℕ, _*_, _≤_}
 use mathlib.Core.Path.{_≡_}
-use mathlib.Core.Logic.{_⊎_, ⊎-elim}
 use mathlib.Core.Option.{none}
 use mathlib.Core.List.{List}
 use native.Mathlib.Omega.{arith}
 use lib.ListN.{length}
 use Rattle.bigendian.specs.Numbers.{Bytes}
 use Rattle.outcomes.specs.Outcomes.{Refusal}
-use Rattle.name_layout.specs.Keys.{Key, Lexical, KeyBelow}
+use Rattle.name_layout.proofs.Keys.{key-asymmetric}
 use Rattle.name.specs.Acceptance.{faults}
 use Rattle.name.specs.Refusing.{Refused}
 use Rattle.name.proofs.Refusings.{refused-exactly}
@@ -20,18 +19,6 @@ use Rattle.name_compare.specs.Comparisons.{blameOf, comparedOf, roomOf}
 use Rattle.name_compare.specs.Settled.{Differs, DifferenceBelow, ComparesNames}
 use Rattle.name_compare.proofs.Rows.{five}
 use Rattle.name_compare.proofs.Exactly.{lists-exactly}
-
--- two keys are not below each other
-lexical-asymmetric : (a b : ℕ) {Rest Other : Type 0} → Lexical a b Rest → Lexical b a Other → (Rest → Other → ⊥) → ⊥
-lexical-asymmetric a b p q f =
-    ⊎-elim (λ x. ⊎-elim (λ y. omega arith) (λ y. omega arith) q) (λ x. ⊎-elim (λ y. omega arith) (λ y. f (x .1) (y .1)) q) p
-
-key-asymmetric : (j k : Key) → KeyBelow j k → KeyBelow k j → ⊥
-key-asymmetric j k p q =
-    lexical-asymmetric (j .platform) (k .platform) p q
-    (λ p′ q′. lexical-asymmetric (j .encoding) (k .encoding) p′ q′
-    (λ p″ q″. lexical-asymmetric (j .language) (k .language) p″ q″
-    (λ x y. omega arith)))
 
 module _ (left right : List ℕ) (bl : Bytes left) (br : Bytes right) where
   compares : Compares (λ (r : Refusal). ⊥) (Refused left) (Refused right) DifferenceBelow (Differs left right) rowOf none (faults left) (faults right) (differences left right)

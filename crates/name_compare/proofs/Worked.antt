@@ -10,8 +10,9 @@ use Rattle.bigendian.specs.Numbers.{number, Bytes}
 use Rattle.outcomes.specs.Firsts.{when, _then_, firstOf}
 use Rattle.outcomes.proofs.Tests.{and-true, below}
 use Rattle.name_layout.specs.Layout.{tagCount, tagsAt, bytesOf}
-use Rattle.name_layout.specs.Keys.{keyOf, below as lower}
-use Rattle.name_tests.specs.Tests.{tooShort, otherFormat, recordsPass, tagsPass, misplaced, stringPasses, forbidden, languageRefused, notAbove}
+use Rattle.name_layout.specs.Keys.{keyOf, same as sameKey, below as lower}
+use Rattle.name_tests.specs.Tests.{tooShort, otherFormat, recordsPass, tagsPass, misplaced}
+use Rattle.name_tests.specs.Tests.{stringPasses, startsBeyond, runsOver, forbidden, languageRefused, belowBefore, equalsBefore}
 use Rattle.name.specs.Acceptance.{layoutFault, recordFault, tagFault, faults}
 use Rattle.comparing.specs.Rooms.{rowsOf, tooMany, front}
 use Rattle.comparing.specs.Comparisons.{of, blame, answerOf, roomAfter}
@@ -39,8 +40,8 @@ right-bytes : Bytes right
 right-bytes = small-bytes right refl
 
 both : Both left right
-unfolding number when _then_ firstOf tagCount tagsAt keyOf lower tooShort otherFormat recordsPass tagsPass misplaced stringPasses forbidden languageRefused notAbove
-    layoutFault recordFault tagFault faults
+unfolding number when _then_ firstOf tagCount tagsAt keyOf sameKey lower tooShort otherFormat recordsPass tagsPass misplaced startsBeyond runsOver
+    stringPasses forbidden languageRefused belowBefore equalsBefore layoutFault recordFault tagFault faults
 both = record { leftBytes = left-bytes; rightBytes = right-bytes; leftAccepted = refl; rightAccepted = refl }
 
 -- the first key on the left is below the first on the right
@@ -58,11 +59,11 @@ listed =
     sym (finished left right both d (omega arith) (omega arith))
 
 pub answers-hold : AnswersHold
-unfolding number when _then_ firstOf tagCount tagsAt keyOf lower tooShort otherFormat recordsPass tagsPass misplaced stringPasses forbidden languageRefused notAbove
-    layoutFault recordFault tagFault faults tooMany of blame answerOf blameOf comparedOf
+unfolding number when _then_ firstOf tagCount tagsAt keyOf sameKey lower tooShort otherFormat recordsPass tagsPass misplaced startsBeyond runsOver
+    stringPasses forbidden languageRefused belowBefore equalsBefore layoutFault recordFault tagFault faults tooMany of blame answerOf blameOf comparedOf
 answers-hold = rw listed
 
 pub rooms-hold : RoomsHold
-unfolding number when _then_ firstOf tagCount tagsAt keyOf lower tooShort otherFormat recordsPass tagsPass misplaced stringPasses forbidden languageRefused notAbove
-    layoutFault recordFault tagFault faults rowsOf tooMany front of blame roomAfter rowOf blameOf roomOf
+unfolding number when _then_ firstOf tagCount tagsAt keyOf sameKey lower tooShort otherFormat recordsPass tagsPass misplaced startsBeyond runsOver
+    stringPasses forbidden languageRefused belowBefore equalsBefore layoutFault recordFault tagFault faults rowsOf tooMany front of blame roomAfter rowOf blameOf roomOf
 rooms-hold = rw listed

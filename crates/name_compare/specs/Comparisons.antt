@@ -15,7 +15,7 @@ use Rattle.name_compare.specs.declared.Compared.{Compared}
 use Rattle.name_compare.specs.declared.Compared.the-variants.{Listed, Refused}
 use Rattle.name_compare.specs.Differences.{differences, rowOf}
 
--- 10 to 18, "left first"; then 29. The call has no refusal of its own
+-- 10 to 19 and 27, "left first"; then 29. The call has no refusal of its own
 unfoldable pub blameOf : List ℕ → List ℕ → ℕ → Option Blamed
 blameOf left right numbers = blame none (faults left) (faults right) (length (differences left right)) numbers
 

@@ -34,9 +34,9 @@ const OTHER_BYTES: u16 = 3;
 
 // Why nothing is listed.
 pub enum Refusal {
-    // 10 to 18 of the left table.
+    // 10 to 19 and 27 of the left table.
     Left(name::Refusal),
-    // 10 to 18 of the right table.
+    // 10 to 19 and 27 of the right table.
     Right(name::Refusal),
     // 29: more differences than rows.
     TooManyDifferences,

@@ -3,7 +3,7 @@
 use Prim.Native.Nat.{ℕ, _+_, _/_, _%_, _<_}
 use mathlib.Core.Path.{_≡_, refl, sym, _∙_, ap}
 use mathlib.Core.Logic.{_⊎_, inl, inr, ⊎-elim, _↔_}
-use mathlib.Core.Bool.{Bool, true, _&&_}
+use mathlib.Core.Bool.{Bool, true, false, _&&_}
 use mathlib.Core.List.{List}
 use native.Mathlib.Decide.{decLt, ℕ-discrete}
 use native.Mathlib.Omega.{arith}
@@ -55,6 +55,55 @@ module _ (j k : Key) where
         key-equal a b c d,
     λ e. rw e (simp self),
   )
+
+-- ---- of two keys one is below the other or they are equal
+
+lexical-either : (a b : ℕ) {P Q R : Type 0} → P ⊎ (Q ⊎ R) → Lexical a b P ⊎ (((a ≡ b) × Q) ⊎ Lexical b a R)
+lexical-either a b {P} {Q} {R} rest = by (decLt a b) (decLt b a)
+  where
+    by : Dec (a < b) → Dec (b < a) → Lexical a b P ⊎ (((a ≡ b) × Q) ⊎ Lexical b a R)
+    by (yes l) d = inl (inl l)
+    by (no l) (yes m) = inr (inr (inl m))
+    by (no l) (no m) =
+        let e : a ≡ b = omega arith in
+        ⊎-elim (λ p. inl (inr (e, p))) (λ s. inr (⊎-elim (λ q. inl (e, q)) (λ r. inr (inr (sym e, r))) s)) rest
+
+lexical-asymmetric : (a b : ℕ) {Rest Other : Type 0} → Lexical a b Rest → Lexical b a Other → (Rest → Other → ⊥) → ⊥
+lexical-asymmetric a b p q f =
+    ⊎-elim (λ x. ⊎-elim (λ y. omega arith) (λ y. omega arith) q) (λ x. ⊎-elim (λ y. omega arith) (λ y. f (x .1) (y .1)) q) p
+
+module _ (j k : Key) where
+  key-either : KeyBelow j k ⊎ ((j ≡ k) ⊎ KeyBelow k j)
+  key-either =
+      ⊎-elim inl (λ s. inr (⊎-elim (λ e. inl (key-equal (e .0) (e .1 .0) (e .1 .1 .0) (e .1 .1 .1))) inr s))
+      (lexical-either (j .platform) (k .platform)
+      (lexical-either (j .encoding) (k .encoding)
+      (lexical-either (j .language) (k .language)
+      (last (decLt (j .name) (k .name)) (decLt (k .name) (j .name))))))
+    where
+      last : Dec (j .name < k .name) → Dec (k .name < j .name) → (j .name < k .name) ⊎ ((j .name ≡ k .name) ⊎ (k .name < j .name))
+      last (yes l) d = inl l
+      last (no l) (yes m) = inr (inr m)
+      last (no l) (no m) = inr (inl (omega arith))
+
+  -- two keys are not below each other
+  pub key-asymmetric : KeyBelow j k → KeyBelow k j → ⊥
+  key-asymmetric p q =
+      lexical-asymmetric (j .platform) (k .platform) p q
+      (λ p′ q′. lexical-asymmetric (j .encoding) (k .encoding) p′ q′
+      (λ p″ q″. lexical-asymmetric (j .language) (k .language) p″ q″
+      (λ x y. omega arith)))
+
+-- no key is below itself
+pub key-irreflexive : {j k : Key} → j ≡ k → KeyBelow j k → ⊥
+key-irreflexive {j} {k} e p = key-asymmetric j k p (rw e (rw e at p))
+
+-- a key is above another exactly when it is neither below it nor equal to it
+pub above-is : (j k : Key) → ((below k j ≡ false) × (same k j ≡ false)) ↔ KeyBelow j k
+above-is j k = (
+  λ e. ⊎-elim (λ p. p) (λ s. absurd (⊎-elim (λ q. tests.fails _ (same-is k j) .0 (e .1) (sym q)) (tests.fails _ (below-is k j) .0 (e .0)) s)) (key-either j k),
+  λ p. (tests.fails _ (below-is k j) .1 (key-asymmetric j k p), tests.fails _ (same-is k j) .1 (λ e. key-irreflexive (sym e) p)),
+)
 
 -- ---- the one number
 

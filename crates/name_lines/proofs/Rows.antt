@@ -9,7 +9,8 @@ use Rattle.characters.specs.Strings.{char, odd}
 use Rattle.charset.specs.Allowed.{allowed}
 use Rattle.name_layout.specs.Layout.{tagCount, tagsAt, bytesOf}
 use Rattle.name_layout.specs.Keys.{keyOf, same, below}
-use Rattle.name_tests.specs.Tests.{tooShort, otherFormat, recordsPass, tagsPass, misplaced, stringPasses, forbidden, languageRefused, notAbove}
+use Rattle.name_tests.specs.Tests.{tooShort, otherFormat, recordsPass, tagsPass, misplaced}
+use Rattle.name_tests.specs.Tests.{stringPasses, startsBeyond, runsOver, forbidden, languageRefused, belowBefore, equalsBefore}
 use Rattle.name.specs.Acceptance.{layoutFault, recordFault, tagFault, faults}
 use Rattle.name_search.specs.Searches.{recordWith, textOf}
 use Rattle.name_answers.specs.Forms.{tooFew, tooMany, wrongCount, otherAt, illFormed, differAt, differ}
@@ -23,7 +24,8 @@ use Rattle.name_lines.specs.Examples.{tables, listings, otherLines, othe
 
 pub listings-hold : map listingOf tables ≡ listings
 unfolding when _then_ firstOf unless number char odd allowed tagCount tagsAt bytesOf keyOf same below
-    tooShort otherFormat recordsPass tagsPass misplaced stringPasses forbidden languageRefused notAbove layoutFault recordFault tagFault faults
+    tooShort otherFormat recordsPass tagsPass misplaced startsBeyond runsOver stringPasses forbidden languageRefused belowBefore equalsBefore
+    layoutFault recordFault tagFault faults
     recordWith textOf tooFew tooMany wrongCount otherAt illFormed differAt differ fromStrings fromBoth postscriptOf fromRecords versionOf
     digits decimal listed headLine keyParts recordLine postscriptLine recordTexts listingOf
 listings-hold = refl

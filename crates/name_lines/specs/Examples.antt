@@ -23,11 +23,11 @@ otherFormat = 0 ∷ 2 ∷ 0 ∷ 0 ∷ 0 ∷ 6 ∷ []
 abbrev pub tables : List (List ℕ)
 tables = twoRecords ∷ equalKeys ∷ otherFormat ∷ []
 
--- "it writes", "it writes the one line", "Without a place"
+-- "it writes"; "its listing with equal keys `refused 19 at 1`" (document 02, Ask 3); "Without a place"
 abbrev pub listings : List (List ℕ)
 listings =
     codes "name format 0 records 2 storage 6\n0 1 0 0 6 0 2\n1 3 1 1033 6 2 4\npostscript Ab\nversion refused 20\n"
-    ∷ codes "refused 17 at 1\n"
+    ∷ codes "refused 19 at 1\n"
     ∷ codes "refused 11\n"
     ∷ []
 

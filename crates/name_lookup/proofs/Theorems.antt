@@ -39,8 +39,8 @@ found-exactly-when t b k x = (
 pub missing-exactly-when : MissingExactlyWhen lookupOf
 unfolding lookupOf foundOr
 missing-exactly-when t b k = (
-  λ h. let p = own t _ 20 (omega arith) .0 h in (acceptable t .0 (p .0), find-none t k .0 (search-none (recordWith t k) refl (p .1))),
-  λ p. own t _ 20 (omega arith) .1 (acceptable t .1 (p .0), not-found _ _ (find-none t k .1 (p .1))),
+  λ h. let p = own t _ 20 refl .0 h in (acceptable t .0 (p .0), find-none t k .0 (search-none (recordWith t k) refl (p .1))),
+  λ p. own t _ 20 refl .1 (acceptable t .1 (p .0), not-found _ _ (find-none t k .1 (p .1))),
 )
   where
     search-none : (o : Option ℕ) → recordWith t k ≡ o → foundOr (bare 20) o (λ i. answered (textOf t i)) ≡ refused 20 none → recordWith t k ≡ none

@@ -14,7 +14,7 @@ use outcomes::Told;
 
 // Why a lookup refuses.
 pub enum LookupRefusal {
-    // 10 to 18: the table's own refusal.
+    // 10 to 19 and 27: the table's own refusal.
     Table(Refusal),
     // 20: no record has the key.
     NoRecord,

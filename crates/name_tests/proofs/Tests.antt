@@ -2,21 +2,23 @@
 -- Assumes nothing.
 use Prim.Native.Nat.{ℕ, zero, suc, _+_, _-_, _≤_, _<_}
 use mathlib.Core.Path.{_≡_, refl}
-use mathlib.Core.Logic.{_⊎_, inl, inr, ⊎-elim, _↔_}
+use mathlib.Core.Logic.{_⊎_, inl, inr, ⊎-elim, _↔_, Iff·trans, Iff·and}
 use mathlib.Core.Bool.{true, false}
 use mathlib.Core.List.{List}
 use native.Mathlib.Decide.{decLt, ℕ-discrete}
 use native.Mathlib.Omega.{arith}
+use lib.Dec.{leb}
 use lib.ListN.{length}
 use borrow.Author.Needs.{needs}
-use borrow.Author.Tests.{lt-ltb, le-ltb, le-leb, lt-leb, eq-eqb, ne-eqb, leb-false, not-false}
+use borrow.Author.Tests.{lt-ltb, le-ltb, le-leb, lt-leb, eq-eqb, ne-eqb, leb-false}
 use Rattle.bigendian.specs.Numbers.{Bytes}
-use Rattle.outcomes.proofs.Tests.{below, not-below, or-false, or-true}
-use Rattle.name_layout.specs.Layout.{format, storage, platform, language, recordsEnd, tagCount, tagsEnd, stringEnd}
+use Rattle.outcomes.proofs.Tests.{below, not-below, at-most, or-false, or-true, and-true, and-false, fails}
+use Rattle.name_layout.specs.Layout.{format, storage, platform, language, recordsEnd, tagCount, tagsEnd, stringStart, stringEnd}
 use Rattle.name_layout.specs.Keys.{keyOf, KeyBelow, packed}
 use Rattle.name_layout.proofs.Layouts.{format-0}
-use Rattle.name_layout.proofs.Keys.{below-is, below-packed, key-small}
-use Rattle.name_tests.specs.Tests.{tooShort, otherFormat, recordsPass, tagsPass, misplaced, stringPasses, forbidden, languageRefused, notAbove}
+use Rattle.name_layout.proofs.Keys.{below-is, same-is, above-is, key-irreflexive, packed-order, key-small}
+use Rattle.name_tests.specs.Tests.{tooShort, otherFormat, recordsPass, tagsPass, misplaced}
+use Rattle.name_tests.specs.Tests.{startsBeyond, runsOver, stringPasses, forbidden, languageRefused, belowBefore, equalsBefore}
 use Rattle.name_tests.specs.Languages.{LanguageAllowed}
 
 -- for `search`: what closes a need, and the tests that the branches on the way decide
@@ -77,28 +79,69 @@ module _ (t : List ℕ) where
   unfolding stringPasses
   string-past at = below (length t) (stringEnd t at)
 
-  -- the first record follows none
-  pub first-above : notAbove t 0 ≡ false
-  unfolding notAbove
-  first-above = refl
+  pub string-beyond : (at : ℕ) → (startsBeyond t at ≡ true) ↔ (length t < stringStart t at)
+  unfolding startsBeyond
+  string-beyond at = below (length t) (stringStart t at)
 
-  -- any other is above the one before it
-  pub above : (i : ℕ) → (notAbove t (suc i) ≡ false) ↔ KeyBelow (keyOf t i) (keyOf t (suc i))
-  unfolding notAbove
-  above i = (
-    λ e. below-is _ _ .0 (not-false _ (simp (lt-ltb 0 (suc i) (omega arith), before) at e)),
-    λ k. simp (lt-ltb 0 (suc i) (omega arith), before, below-is _ _ .1 k),
+  pub string-starts : (at : ℕ) → (startsBeyond t at ≡ false) ↔ (stringStart t at ≤ length t)
+  unfolding startsBeyond
+  string-starts at = not-below (length t) (stringStart t at)
+
+  pub string-over : (at : ℕ) → (runsOver t at ≡ true) ↔ ((stringStart t at ≤ length t) × (length t < stringEnd t at))
+  unfolding runsOver
+  string-over at = Iff·trans (and-true _ _) (Iff·and (at-most (stringStart t at) (length t)) (string-past at))
+
+  -- what passes the end and does not start beyond it runs over
+  pub string-either : (at : ℕ) → stringPasses t at ≡ true → startsBeyond t at ≡ false → runsOver t at ≡ true
+  string-either at e f = string-over at .1 (string-starts at .0 f, string-past at .0 e)
+
+  -- neither 15 nor 27, which leaves just the strings that end within storage
+  abbrev pub Held : ℕ → Type 0
+  Held at = (startsBeyond t at ≡ false) × (runsOver t at ≡ false)
+
+  pub string-held : (at : ℕ) → Held at ↔ (stringEnd t at ≤ length t)
+  unfolding runsOver
+  string-held at = (
+    λ e. string-fits at .0 (and-false _ _ .0 (e .1) (at-most _ _ .1 (string-starts at .0 (e .0)))),
+    λ h. (string-starts at .1 (omega arith), and-false (leb (stringStart t at) (length t)) _ .1 (λ d. string-fits at .1 h)),
   )
-    where
-      before : suc i - 1 ≡ i
-      before = omega arith
+
+  -- neither 17 nor 19 at record i
+  abbrev pub Rises : ℕ → Type 0
+  Rises i = (belowBefore t i ≡ false) × (equalsBefore t i ≡ false)
+
+  -- the first record follows none
+  pub first-above : Rises 0
+  unfolding belowBefore equalsBefore
+  first-above = (refl, refl)
+
+  -- any other is compared with the one before it
+  module _ (i : ℕ) where
+    before : suc i - 1 ≡ i
+    before = omega arith
+
+    pub key-below : (belowBefore t (suc i) ≡ true) ↔ KeyBelow (keyOf t (suc i)) (keyOf t i)
+    unfolding belowBefore
+    key-below = simp (lt-ltb 0 (suc i) (omega arith), before) (below-is _ _)
+
+    pub key-equal : (equalsBefore t (suc i) ≡ true) ↔ (keyOf t (suc i) ≡ keyOf t i)
+    unfolding equalsBefore
+    key-equal = simp (lt-ltb 0 (suc i) (omega arith), before) (same-is _ _)
+
+    -- that leaves just the keys that are above the one before
+    pub above : Rises (suc i) ↔ KeyBelow (keyOf t i) (keyOf t (suc i))
+    unfolding belowBefore equalsBefore
+    above = simp (lt-ltb 0 (suc i) (omega arith), before) (above-is (keyOf t i) (keyOf t (suc i)))
+
+  -- 19's condition leaves no 17
+  pub equal-not-below : (i : ℕ) → equalsBefore t i ≡ true → belowBefore t i ≡ false
+  equal-not-below zero e = first-above .0
+  equal-not-below (suc i) e = fails _ (key-below i) .1 (key-irreflexive (key-equal i .0 e))
 
   -- by the code's numbers: a key is above the one before it, if there is one
-  pub order-ok : Bytes t → (i : ℕ) → (0 < i → packed (keyOf t (i - 1)) < packed (keyOf t i)) → notAbove t i ≡ false
-  unfolding notAbove
-  order-ok b zero f = refl
-  order-ok b (suc i) f =
-      simp (lt-ltb 0 (suc i) (omega arith), below-packed (key-small t b (suc i - 1)) (key-small t b (suc i)), lt-ltb _ _ (f (omega arith)))
+  pub order-ok : Bytes t → (i : ℕ) → (0 < i → packed (keyOf t (i - 1)) < packed (keyOf t i)) → Rises i
+  order-ok b zero f = first-above
+  order-ok b (suc i) f = above i .1 (packed-order (key-small t b i) (key-small t b (suc i)) .0 (rw (before i) at (f (omega arith))))
 
 -- ---- the languages, in either format
 

@@ -1,11 +1,12 @@
--- Document 01, "Numbers given for a refusal", 10 to 18, one by one: each definition says when its refusal's condition holds.
+-- Document 01, "Numbers given for a refusal", 10 to 18, and document 02, Ask 3, which splits 15 and 17, one by one: each definition says when its refusal's
+-- condition holds.
 use Prim.Native.Nat.{ℕ, _+_, _-_}
 use mathlib.Core.List.{List}
-use mathlib.Core.Bool.{Bool, cond, not, _&&_, _||_}
+use mathlib.Core.Bool.{Bool, cond, _&&_, _||_}
 use lib.ListN.{length}
 use lib.Dec.{ltb, leb, eqb}
-use Rattle.name_layout.specs.Layout.{format, storage, platform, language, recordsEnd, tagCount, tagsEnd, stringEnd}
-use Rattle.name_layout.specs.Keys.{keyOf, below}
+use Rattle.name_layout.specs.Layout.{format, storage, platform, language, recordsEnd, tagCount, tagsEnd, stringStart, stringEnd}
+use Rattle.name_layout.specs.Keys.{keyOf, same, below}
 
 -- 10: "'name' under 6 bytes"
 unfoldable pub tooShort : List ℕ → Bool
@@ -27,9 +28,17 @@ tagsPass t = ltb (length t) (tagsEnd t)
 unfoldable pub misplaced : List ℕ → Bool
 misplaced t = ltb (storage t) (tagsEnd t) || ltb (length t) (storage t)
 
--- 15 and 16: a "string passes the end of storage", which is the table's end
+-- 16: a "string passes the end of storage", which is the table's end
 unfoldable pub stringPasses : List ℕ → ℕ → Bool
 stringPasses t at = ltb (length t) (stringEnd t at)
+
+-- 15: "when the string starts beyond the storage end" (Ask 3)
+unfoldable pub startsBeyond : List ℕ → ℕ → Bool
+startsBeyond t at = ltb (length t) (stringStart t at)
+
+-- 27: "when it starts within or at the end and runs over" (Ask 3)
+unfoldable pub runsOver : List ℕ → ℕ → Bool
+runsOver t at = leb (stringStart t at) (length t) && stringPasses t at
 
 -- 18: "In format 0 a language of 0x8000 or more is allowed only for platforms 240 to 255.
 -- In format 1 a language of 0x8000 or more must be below 0x8000 plus the tag count, on every platform.": language l on platform p in format f
@@ -41,6 +50,10 @@ forbidden f tags p l =
 unfoldable pub languageRefused : List ℕ → ℕ → Bool
 languageRefused t i = forbidden (format t) (tagCount t) (platform t i) (language t i)
 
--- 17: "a record's key isn't above the one before it"
-unfoldable pub notAbove : List ℕ → ℕ → Bool
-notAbove t i = ltb 0 i && not (below (keyOf t (i - 1)) (keyOf t i))
+-- 17: "for a key below the one before" (Ask 3)
+unfoldable pub belowBefore : List ℕ → ℕ → Bool
+belowBefore t i = ltb 0 i && below (keyOf t i) (keyOf t (i - 1))
+
+-- 19: "for a key equal to it" (Ask 3)
+unfoldable pub equalsBefore : List ℕ → ℕ → Bool
+equalsBefore t i = ltb 0 i && same (keyOf t i) (keyOf t (i - 1))

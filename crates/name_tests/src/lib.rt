@@ -1,10 +1,12 @@
 // The tests of a 'name' table: whether the condition of each refusal holds, of the table, of a record or of a tag.
-// Document 01, refusals 10 to 18, one by one. It relies on the table's layout; its callers show that the bytes are there.
+// Document 01, refusals 10 to 18, and document 02, Ask 3, 19 and 27, one by one. It relies on the table's layout; its callers show that the bytes are there.
 ghost use mathlib.Core.Path.{_≡_};
+ghost use mathlib.Core.Bool.{_||_};
 ghost use Prim.Native.Nat.{_+_, _≤_, _<_};
 ghost use lib.ListN.{length};
 ghost use Rattle.name_layout.specs.Layout.{count, recordAt};
-ghost use Rattle.name_tests.specs.Tests.{tooShort, otherFormat, recordsPass, tagsPass, misplaced, stringPasses, forbidden, languageRefused, notAbove};
+ghost use Rattle.name_tests.specs.Tests.{tooShort, otherFormat, recordsPass, tagsPass, misplaced};
+ghost use Rattle.name_tests.specs.Tests.{stringPasses, startsBeyond, forbidden, languageRefused, belowBefore, equalsBefore};
 ghost use Rattle.name_tests.specs.Steps.{Framed};
 use name_layout::format_number;
 use name_layout::key_at;
@@ -60,6 +62,14 @@ pub fn string_passes(table: &[u8], at: usize) -> bool
     table.len() < start + name_layout::string_length(table, at) as usize
 }
 
+// Whether it starts beyond the table's end.
+pub fn starts_beyond(table: &[u8], at: usize) -> bool
+    requires { ⌜ (6 ≤ length (now table)) × (at + 4 ≤ length (now table)) ⌝ }
+    ensures { λ r. ⌜ r ≡ startsBeyond (now (table .entry)) at ⌝ }
+{
+    table.len() < name_layout::string_start(table, at)
+}
+
 // Whether the language number of record i is not allowed.
 pub fn language_refused(table: &[u8], i: usize) -> bool
     requires { ⌜ Framed (now table) × (i < count (now table)) ⌝ }
@@ -87,10 +97,18 @@ fn forbidden(format: u16, tags: u16, platform: u16, language: u16) -> bool
     0x8000 + tags as u32 <= language as u32
 }
 
-// Whether record i follows one whose key is not below its own.
+// Whether the key of record i is not above that of the record before it: below it, or equal to it.
 pub fn not_above(table: &[u8], i: usize) -> bool
     requires { ⌜ recordAt i + 12 ≤ length (now table) ⌝ }
-    ensures { λ r. ⌜ r ≡ notAbove (now (table .entry)) i ⌝ }
+    ensures { λ r. ⌜ r ≡ (belowBefore (now (table .entry)) i || equalsBefore (now (table .entry)) i) ⌝ }
 {
-    0 < i && !(key_at(table, i - 1) < key_at(table, i))
+    0 < i && key_at(table, i) <= key_at(table, i - 1)
+}
+
+// Whether the key of record i is equal to that of the record before it.
+pub fn equals_before(table: &[u8], i: usize) -> bool
+    requires { ⌜ recordAt i + 12 ≤ length (now table) ⌝ }
+    ensures { λ r. ⌜ r ≡ equalsBefore (now (table .entry)) i ⌝ }
+{
+    0 < i && key_at(table, i) == key_at(table, i - 1)
 }

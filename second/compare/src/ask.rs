@@ -3,6 +3,8 @@
 use std::fmt::Display;
 use std::panic::{self, AssertUnwindSafe};
 
+use crate::faults::{self, Refused};
+use crate::met::{self, Thing};
 use crate::numbers::Numbers;
 use crate::pair::Marks;
 use crate::question::{shown, Function, Question, Words};
@@ -67,6 +69,22 @@ impl Asker {
             return Err(differ(&question, function, second, "crate", krate));
         }
         self.counted(&question, function, second, version_and_fs_type(table))
+    }
+
+    /// Asks one question on a 'name' table, of which the comparison's own reading says this. All sides have to say the same.
+    pub fn ask_name(
+        &mut self,
+        table: &[u8],
+        question: Question,
+        read: Option<Refused>,
+    ) -> Result<Words, Difference> {
+        let words = self.ask(table, question)?;
+        as_read(&question, question.function(), words, read.map(own_words))?;
+        if let Some((number, _)) = read {
+            let thing = Thing::Passed(question.function(), number);
+            self.tally.met.add(thing);
+        }
+        Ok(words)
     }
 
     /// Counts a call that all sides answered with these words.
@@ -147,10 +165,12 @@ impl Asker {
         numbers: &mut Numbers,
     ) -> Result<(), Difference> {
         self.tally.names[0] += 1;
-        let accepted = self.ask(table, Question::NameCheck)?[0] == 0;
+        let read = faults::refused(table);
+        let accepted = self.ask_name(table, Question::NameCheck, read)?[0] == 0;
         self.tally.names[1] += u64::from(accepted);
-        self.ask(table, Question::PostScript)?;
-        self.ask(table, Question::Version)?;
+        self.ask_name(table, Question::PostScript, read)?;
+        self.ask_name(table, Question::Version, read)?;
+        met::of_name(table, &mut |thing| self.tally.met.add(thing));
 
         let fixed = [
             [1, 0, 0, 6],
@@ -166,35 +186,42 @@ impl Asker {
         match amount {
             Amount::Everything => {
                 for key in fixed.iter().chain(&keys) {
-                    self.key_and_near_misses(table, *key)?;
+                    self.key_and_near_misses(table, *key, read)?;
                 }
             }
             // A refused table passes its refusal on, whatever the key is.
             Amount::Some if !accepted => {
-                self.ask(table, Question::Lookup(numbers.pick(&fixed)))?;
+                let mut asked = vec![numbers.pick(&fixed)];
                 if !keys.is_empty() {
-                    self.ask(table, Question::Lookup(numbers.pick(&keys)))?;
+                    asked.push(numbers.pick(&keys));
+                }
+                // The key of the record that is refused.
+                if let Some((15 | 17..=19 | 27, Some(record))) = read {
+                    asked.push(keys[record]);
+                }
+                for key in asked {
+                    self.ask_name(table, Question::Lookup(key), read)?;
                 }
             }
             Amount::Some => {
                 for key in fixed {
-                    self.ask(table, Question::Lookup(key))?;
+                    self.ask_name(table, Question::Lookup(key), read)?;
                 }
                 if keys.len() <= 12 {
                     for key in keys {
-                        self.key_and_near_misses(table, key)?;
+                        self.key_and_near_misses(table, key, read)?;
                     }
                 } else {
                     // The two ends, and some between.
-                    self.key_and_near_misses(table, keys[0])?;
-                    self.key_and_near_misses(table, keys[keys.len() - 1])?;
+                    self.key_and_near_misses(table, keys[0], read)?;
+                    self.key_and_near_misses(table, keys[keys.len() - 1], read)?;
                     for _ in 0..6 {
                         let key = numbers.pick(&keys);
-                        self.ask(table, Question::Lookup(key))?;
+                        self.ask_name(table, Question::Lookup(key), read)?;
                         let part = numbers.below(4);
                         let mut near = key;
                         near[part] = numbers.pick(&near_parts(key[part]));
-                        self.ask(table, Question::Lookup(near))?;
+                        self.ask_name(table, Question::Lookup(near), read)?;
                     }
                 }
             }
@@ -202,13 +229,18 @@ impl Asker {
         Ok(())
     }
 
-    fn key_and_near_misses(&mut self, table: &[u8], key: [u32; 4]) -> Result<(), Difference> {
-        self.ask(table, Question::Lookup(key))?;
+    fn key_and_near_misses(
+        &mut self,
+        table: &[u8],
+        key: [u32; 4],
+        read: Option<Refused>,
+    ) -> Result<(), Difference> {
+        self.ask_name(table, Question::Lookup(key), read)?;
         for part in 0..4 {
             for near in near_parts(key[part]) {
                 let mut other = key;
                 other[part] = near;
-                self.ask(table, Question::Lookup(other))?;
+                self.ask_name(table, Question::Lookup(other), read)?;
             }
         }
         let [p, e, l, n] = key;
@@ -217,7 +249,7 @@ impl Asker {
             [n, l, e, p],
             [p, e, n, l],
         ] {
-            self.ask(table, Question::Lookup(other))?;
+            self.ask_name(table, Question::Lookup(other), read)?;
         }
         Ok(())
     }
@@ -360,6 +392,34 @@ pub fn differ(
         format!("{side}:"),
         shown(function, words)
     ))
+}
+
+/// The words of a refusal by the comparison's own reading.
+pub fn own_words((number, place): Refused) -> Words {
+    let mut words = [0; 7];
+    words[0] = u64::from(number);
+    words[1] = u64::from(place.is_some());
+    words[2] = place.unwrap_or(0) as u64;
+    words
+}
+
+/// What all sides answered about 'name' tables has to be the refusal that the comparison's own reading gives; where that gives
+/// none, it has to be an answer or a refusal that is not a table's.
+pub fn as_read(
+    question: &dyn Display,
+    function: Function,
+    words: Words,
+    read: Option<Words>,
+) -> Result<(), Difference> {
+    let said = match read {
+        Some(read) if words != read => shown(function, read),
+        None if faults::of_table(words[0]) => "accepted".to_string(),
+        _ => return Ok(()),
+    };
+    Err(Difference(format!(
+        "{question}: the sides agree, but the comparison reads the papers otherwise\n  comparison: {said}\n  all sides:  {}\n",
+        shown(function, words)
+    )))
 }
 
 /// One side's writing into a room.

@@ -1,4 +1,5 @@
-//! Comparisons of two tables with the rows that follow from the words of document 02's Ask 2, written down by hand.
+//! Comparisons of two tables with the rows that follow from the words of document 02's Ask 2, and the refusals with Ask 3's
+//! numbers, written down by hand.
 
 use crate::ask::{Amount, Asker, Difference};
 use crate::make::Made;
@@ -622,15 +623,35 @@ fn name_cases(case: NameCase) {
         ("refused 14", &vec![0, 0, 0, 0, 0, 7], refused(14)),
         (
             "refused 15 at 1",
-            &name(&[[1, 0, 0, 6, 0, 0], [1, 0, 0, 7, 1, 0]], b""),
+            &name(&[[1, 0, 0, 6, 0, 0], [1, 0, 0, 7, 0, 1]], b""),
             refused_at(15, 1),
+        ),
+        (
+            "refused 15 at 0",
+            &name(&[[1, 0, 0, 6, 2, 65_535]], b"Ab"),
+            refused_at(15, 0),
+        ),
+        (
+            "refused 27 at 1",
+            &name(&[[1, 0, 0, 6, 0, 0], [1, 0, 0, 7, 1, 0]], b""),
+            refused_at(27, 1),
+        ),
+        (
+            "refused 27 at 0",
+            &name(&[[1, 0, 0, 6, 3, 0]], b"Ab"),
+            refused_at(27, 0),
         ),
         (
             "refused 16 at 0",
             &vec![0, 1, 0, 0, 0, 12, 0, 1, 0, 1, 0, 0],
             refused_at(16, 0),
         ),
-        ("refused 17 at 1", &twice, refused_at(17, 1)),
+        (
+            "refused 17 at 1",
+            &name(&[[1, 0, 0, 6, 0, 0], [1, 0, 0, 5, 0, 0]], b""),
+            refused_at(17, 1),
+        ),
+        ("refused 19 at 1", &twice, refused_at(19, 1)),
         (
             "refused 18 at 0",
             &name(&[[3, 1, 0x8000, 1, 0, 0]], b""),

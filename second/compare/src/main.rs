@@ -3,6 +3,7 @@
 
 mod ask;
 mod cases;
+mod faults;
 mod fonts;
 mod make;
 mod met;
@@ -31,7 +32,7 @@ use tally::Tally;
 
 const USAGE: &str = "usage: compare [OPTION]... [FOLDER]...
 Compares the archive and the Rust crate over it with the second program on the rows of document 01 and of document 02's Asks 1
-and 2, in sweeps over the places that the rules look at, on tables made at random, and on the fonts under the folders. Without
+to 3, in sweeps over the places that the rules look at, on tables made at random, and on the fonts under the folders. Without
 folders: the fonts installed on the machine.
 
   --rows, --sweeps, --random, --fonts
@@ -245,7 +246,7 @@ fn document_rows(task: &Task) -> Result<Tally, Stop> {
     let cases = cases::cases();
     for case in &cases {
         caught(|| cases::ask(&mut asker, case)).map_err(|difference| {
-            let place = format!("the case of Ask 2 \"{}\"", case.words);
+            let place = format!("the comparison \"{}\"", case.words);
             stopped(task, &case.made(), difference, &place)
         })?;
     }
@@ -311,7 +312,7 @@ fn at_random(task: &Task) -> Result<Tally, Stop> {
     }
     if missing.is_empty() {
         say!(
-            "at random: every refusal, rule, field that does not fit, kind of answer, setting of the rights bits and thing of a comparison was met"
+            "at random: every refusal, rule, field that does not fit, kind of answer, setting of the rights bits and thing of a comparison and of a record was met"
         );
     } else {
         say!(

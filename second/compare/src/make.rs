@@ -1,6 +1,6 @@
 //! Makes tables at random: valid ones, ones with a fault at an edge, ones cut short.
 //!
-//! The makers know the rules of document 01 and of document 02's Asks 1 and 2 only to come near their edges. Whether a table is
+//! The makers know the rules of document 01 and of document 02's Asks 1 to 3 only to come near their edges. Whether a table is
 //! right is for the compared programs.
 
 use second::os2::{size, FIELDS};
@@ -165,7 +165,13 @@ fn valid_name(n: &mut Numbers) -> Plan {
         let after = n.below(6);
         storage.extend(n.bytes(after));
     }
-    if n.chance(1, 400) {
+    if n.chance(1, 40) {
+        // No storage: the strings are empty.
+        storage.clear();
+        places.fill(None);
+    }
+    let large = n.chance(1, 400);
+    if large {
         let whole = n.pick(&[
             65_534, 65_535, 65_536, 65_537, 70_000, 131_069, 131_070, 131_071,
         ]);
@@ -173,7 +179,7 @@ fn valid_name(n: &mut Numbers) -> Plan {
         storage.extend(n.bytes(more));
     }
 
-    let records: Vec<Record> = keys
+    let mut records: Vec<Record> = keys
         .into_iter()
         .zip(places)
         .map(|(key, place)| {
@@ -185,6 +191,12 @@ fn valid_name(n: &mut Numbers) -> Plan {
             }
         })
         .collect();
+    if large && !records.is_empty() && n.chance(1, 2) {
+        // At the last offset that there is, where such a storage ends or has some bytes more.
+        let number = n.below(records.len());
+        records[number].offset = 65_535;
+        records[number].length = n.pick(&[0, 1, 2, 65_535]);
+    }
     let tags = (0..tag_count)
         .map(|_| {
             let (offset, length) = place_in(n, storage.len());
@@ -470,7 +482,7 @@ fn name_fault(n: &mut Numbers, plan: &mut Plan) {
     let records = plan.records.len();
     let storage = plan.storage.len();
     let whole = plan.front() + plan.gap.len() + storage;
-    match n.below(23) {
+    match n.below(28) {
         0 => plan.format = n.pick(&[2, 3, 0x0100, 0x8000, 0xFFFF]),
         1 => plan.format ^= 1,
         2 => {
@@ -509,15 +521,14 @@ fn name_fault(n: &mut Numbers, plan: &mut Plan) {
         }
         13..=15 if records > 1 => {
             let later = 1 + n.below(records - 1);
-            match n.below(4) {
+            match n.below(6) {
                 0 => plan.records.swap(later - 1, later),
                 1 => plan.records[later].key = plan.records[later - 1].key,
-                2 => {
-                    let part = n.below(4);
-                    let mut key = plan.records[later - 1].key;
-                    key[part] = key[part].wrapping_sub(1);
-                    plan.records[later].key = key;
-                }
+                // The whole record twice.
+                2 => plan.records[later] = plan.records[later - 1],
+                // The key two before it.
+                3 if later > 1 => plan.records[later].key = plan.records[later - 2].key,
+                4 => plan.records[later].key = lower_key(n, plan.records[later - 1].key),
                 _ => {
                     let part = n.below(4);
                     let mut key = plan.records[later - 1].key;
@@ -539,21 +550,31 @@ fn name_fault(n: &mut Numbers, plan: &mut Plan) {
             }
             plan.records.sort_by_key(|record| record.key);
         }
-        19..=21 if records > 1 => {
+        19..=22 if records > 1 => {
             // Several faults at one record: which is told depends on their order.
             let later = 1 + n.below(records - 1);
+            if n.chance(2, 3) {
+                let [length, offset] = string_at_edge(n, storage);
+                (plan.records[later].length, plan.records[later].offset) = (length, offset);
+            }
             let before = plan.records[later - 1].key;
-            let tags = plan.tags.len();
-            let record = &mut plan.records[later];
+            match n.below(4) {
+                0 => plan.records[later].key = before,
+                1 | 2 => plan.records[later].key = lower_key(n, before),
+                _ => {}
+            }
             if n.chance(1, 2) {
-                [record.length, record.offset] = string_at_edge(n, storage);
+                plan.records[later].key[2] = (0x8000 + plan.tags.len() + n.below(3)) as u16;
             }
-            if n.chance(2, 3) {
-                record.key[2] = (0x8000 + tags + n.below(3)) as u16;
+        }
+        23..=26 if records > 1 => {
+            // Faults at several records, and at a tag: which is told depends on their order.
+            for _ in 0..2 + n.below(2) {
+                record_fault(n, plan);
             }
-            if n.chance(2, 3) {
-                record.key[0] = before[0].saturating_sub(n.below(2) as u16);
-                record.key[1] = before[1].saturating_sub(n.below(2) as u16);
+            if !plan.tags.is_empty() && n.chance(1, 2) {
+                let tag = n.below(plan.tags.len());
+                plan.tags[tag] = string_at_edge(n, storage);
             }
         }
         _ => {
@@ -567,9 +588,37 @@ fn name_fault(n: &mut Numbers, plan: &mut Plan) {
     }
 }
 
+/// A key below this one, as far as its part that is lowered is not 0. A later part doesn't outweigh it.
+fn lower_key(n: &mut Numbers, mut key: Key) -> Key {
+    let part = n.below(4);
+    key[part] = key[part].saturating_sub(n.pick(&[1, 1, 2, 256]));
+    if part < 3 && n.chance(1, 2) {
+        key[3] = n.word();
+    }
+    key
+}
+
+/// Puts one fault into one record: a string about the storage's end, a language, the key before it or one below that.
+fn record_fault(n: &mut Numbers, plan: &mut Plan) {
+    let number = n.below(plan.records.len());
+    let storage = plan.storage.len();
+    match n.below(6) {
+        0..=2 => {
+            let [length, offset] = string_at_edge(n, storage);
+            (plan.records[number].length, plan.records[number].offset) = (length, offset);
+        }
+        3 => plan.records[number].key[2] = (0x8000 + plan.tags.len() + n.below(3)) as u16,
+        4 if number > 0 => plan.records[number].key = plan.records[number - 1].key,
+        _ if number > 0 => {
+            plan.records[number].key = lower_key(n, plan.records[number - 1].key);
+        }
+        _ => {}
+    }
+}
+
 /// Length and offset about the end of the storage, and where their sum passes 65,535.
 fn string_at_edge(n: &mut Numbers, storage: usize) -> [u16; 2] {
-    let (length, offset) = match n.below(12) {
+    let (length, offset) = match n.below(16) {
         0 | 1 => {
             let (offset, length) = place_in(n, storage);
             (length + 1, offset)
@@ -582,13 +631,26 @@ fn string_at_edge(n: &mut Numbers, storage: usize) -> [u16; 2] {
             let offset = n.below(storage + 1);
             (storage - offset, offset)
         }
+        // At the end, and one byte beyond it.
         4 => (0, storage),
-        5 => (1, storage),
+        5 => (n.pick(&[1, 1, 2, 65_535]), storage),
         6 => (0, storage + 1),
-        7 => (n.pick(&[1, 2, 3]), 65_535),
-        8 => (65_535, n.pick(&[0, 1, 2, 3])),
-        9 => (65_535, 65_535),
-        10 => (65_536 - storage.min(65_536), storage),
+        7 => (n.pick(&[1, 2, 65_535]), storage + 1),
+        // Farther beyond it.
+        8 => {
+            let more = 2 + n.below(300);
+            (n.pick(&[0, 1, more]), storage + more)
+        }
+        9 => (0, 65_535),
+        10 => (n.pick(&[1, 2, 3]), 65_535),
+        11 => (65_535, n.pick(&[0, 1, 2, 3])),
+        12 => (65_535, 65_535),
+        13 => (65_536 - storage.min(65_536), storage),
+        // From before the end, so that the sum is 0 or little in 16 bits.
+        14 => {
+            let offset = n.below(storage + 1).min(65_535);
+            (65_536 - offset + n.below(3), offset)
+        }
         _ => (usize::from(n.word()), usize::from(n.word())),
     };
     [length.min(65_535) as u16, offset.min(65_535) as u16]

@@ -1,12 +1,14 @@
-//! What comparisons of two tables have met. A long run at random has to meet every one of these things.
+//! What comparisons of two tables and questions on 'name' tables have met. A long run at random has to meet every one of these
+//! things.
 
 use std::collections::BTreeMap;
 use std::fmt;
 
 use second::os2::Answer;
-use second::{compare, name, os2, Refusal};
+use second::{compare, name, os2};
 
 use crate::ask::word;
+use crate::faults::{self, Front, Place, Record, Refused};
 use crate::pair::{Of, Pair, LEVELS_ABOVE};
 use crate::question::Function;
 
@@ -54,7 +56,114 @@ const ROOMS: [Room; 8] = [
     Room::Refused,
 ];
 
-/// A thing that a comparison met.
+/// A record's string beside the storage's end.
+#[derive(Clone, Copy, PartialEq, Eq, PartialOrd, Ord)]
+pub enum Edge {
+    /// It is empty.
+    Empty,
+    /// It is not empty.
+    NotEmpty,
+    /// It starts one byte beyond the end.
+    OneBeyond,
+    /// It starts at the end of a storage that has bytes.
+    FromEnd,
+    /// It starts before the end.
+    FromBefore,
+    /// It is one byte too long.
+    OneTooLong,
+    /// It is not empty and ends at the end.
+    ToEnd,
+    /// Its offset is 65,535.
+    LastOffset,
+    /// Its offset and length pass 65,535 in sum.
+    LongSum,
+    /// There is no storage.
+    NoStorage,
+}
+
+impl Edge {
+    /// Whether a record's string is so, in a storage of this length.
+    fn holds(self, record: &Record, storage: usize) -> bool {
+        let Record { length, offset, .. } = *record;
+        match self {
+            Edge::Empty => length == 0,
+            Edge::NotEmpty => length > 0,
+            Edge::OneBeyond => offset == storage + 1,
+            Edge::FromEnd => offset == storage && storage > 0,
+            Edge::FromBefore => offset < storage,
+            Edge::OneTooLong => offset + length == storage + 1,
+            Edge::ToEnd => offset + length == storage && length > 0,
+            Edge::LastOffset => offset == 65_535,
+            Edge::LongSum => offset + length > 65_535,
+            Edge::NoStorage => storage == 0,
+        }
+    }
+
+    fn words(self) -> &'static str {
+        match self {
+            Edge::Empty => "an empty string",
+            Edge::NotEmpty => "a string that is not empty",
+            Edge::OneBeyond => "a string that starts one byte beyond the end",
+            Edge::FromEnd => "a string that starts at the end",
+            Edge::FromBefore => "a string that starts before the end",
+            Edge::OneTooLong => "a string one byte too long",
+            Edge::ToEnd => "a string that ends at the end",
+            Edge::LastOffset => "a string with offset 65,535",
+            Edge::LongSum => "a string whose offset and length pass 65,535",
+            Edge::NoStorage => "a string where there is no storage",
+        }
+    }
+}
+
+/// What is met of strings that are refused by 15 and by 27.
+const REFUSED_EDGES: [(u32, &[Edge]); 2] = [
+    (
+        15,
+        &[
+            Edge::Empty,
+            Edge::NotEmpty,
+            Edge::OneBeyond,
+            Edge::LastOffset,
+            Edge::LongSum,
+            Edge::NoStorage,
+        ],
+    ),
+    (
+        27,
+        &[
+            Edge::FromEnd,
+            Edge::FromBefore,
+            Edge::OneTooLong,
+            Edge::LastOffset,
+            Edge::LongSum,
+            Edge::NoStorage,
+        ],
+    ),
+];
+/// What is met of strings in accepted tables. One that starts at the end is empty there.
+const ACCEPTED_EDGES: [Edge; 4] = [
+    Edge::FromEnd,
+    Edge::ToEnd,
+    Edge::LastOffset,
+    Edge::NoStorage,
+];
+/// The numbers that tell what is wrong with a record.
+const OF_RECORDS: [u32; 5] = [15, 27, 18, 17, 19];
+/// The numbers that document 02's Ask 3 splits.
+const SPLIT: [u32; 4] = [15, 27, 17, 19];
+/// Numbers whose conditions can hold for one record, the one that is told first. A key that is equal to the one before it has
+/// the same language, so 18 and 19 do not meet.
+const TOGETHER: [(u32, u32); 7] = [
+    (15, 18),
+    (15, 17),
+    (15, 19),
+    (27, 18),
+    (27, 17),
+    (27, 19),
+    (18, 17),
+];
+
+/// A thing that was met.
 #[derive(Clone, Copy, PartialEq, Eq, PartialOrd, Ord)]
 pub enum Thing {
     /// The same bytes lent for both sides.
@@ -113,6 +222,28 @@ pub enum Thing {
     Largest,
     /// More than 255 rows.
     ManyRows,
+    /// A 'name' table that is refused by this number, and this question on it.
+    Passed(Function, u32),
+    /// The refusal is 15 or 27, at record 0 or (true) at a later one.
+    StringAt(u32, bool),
+    /// The refusal is 15 or 27, for a string that is so.
+    RefusedString(u32, Edge),
+    /// A table is accepted that has such a string.
+    Accepted(Edge),
+    /// The refusal is 17 or 19, at record 1 or (true) at a later one.
+    KeyAt(u32, bool),
+    /// The refusal is 17, and this part of the key is the first to differ.
+    FallsBy(usize),
+    /// The refusal is 17 for a key that is equal to the one two before it.
+    TwoBefore,
+    /// The refusal is 19, and the two records also have (true) or don't have the same length and offset.
+    EqualStrings(bool),
+    /// The refusal is the first number, and the condition of the second holds for the same record.
+    Together(u32, u32),
+    /// The refusal is the first number, and the condition of the second holds for a later record; 16 for a tag.
+    Behind(u32, u32),
+    /// The refusal is 16, for a tag's string that lies so, at tag 0 or (true) at a later one.
+    TagAt(Place, bool),
 }
 
 /// The word for a side.
@@ -186,6 +317,40 @@ impl fmt::Display for Thing {
             Thing::Formats(left, right) => write!(f, "{name}: format {left} against {right}"),
             Thing::Largest => write!(f, "{name}: 5,460 records with one byte changed"),
             Thing::ManyRows => write!(f, "{name}: more than 255 rows"),
+            Thing::Passed(of, number) => {
+                write!(f, "{}: asked of a table refused {number}", of.title())
+            }
+            Thing::StringAt(number, false) => write!(f, "name tables: {number} at record 0"),
+            Thing::StringAt(number, true) => write!(f, "name tables: {number} at a later record"),
+            Thing::RefusedString(number, edge) => {
+                write!(f, "name tables: {number} for {}", edge.words())
+            }
+            Thing::Accepted(edge) => write!(f, "name tables: accepted with {}", edge.words()),
+            Thing::KeyAt(number, false) => write!(f, "name tables: {number} at record 1"),
+            Thing::KeyAt(number, true) => {
+                write!(f, "name tables: {number} at a record behind record 1")
+            }
+            Thing::FallsBy(part) => {
+                let word = ["platform", "encoding", "language", "name"][part];
+                write!(f, "name tables: 17 for a lower {word}")
+            }
+            Thing::TwoBefore => write!(f, "name tables: 17 for the key two before"),
+            Thing::EqualStrings(true) => write!(f, "name tables: 19 with the same string's place"),
+            Thing::EqualStrings(false) => write!(f, "name tables: 19 with another string's place"),
+            Thing::Together(number, other) => {
+                write!(f, "name tables: {number} where {other} holds too")
+            }
+            Thing::Behind(number, other) => {
+                write!(f, "name tables: {number} where {other} holds behind it")
+            }
+            Thing::TagAt(place, later) => {
+                let words = match place {
+                    Place::Beyond => "starts beyond the end",
+                    Place::Over | Place::Inside => "runs over the end",
+                };
+                let at = if later { "a later tag" } else { "tag 0" };
+                write!(f, "name tables: 16 at {at}, whose string {words}")
+            }
         }
     }
 }
@@ -195,8 +360,11 @@ pub fn all() -> Vec<Thing> {
     let sides = [Side::Left, Side::Right];
     let mut things = Vec::new();
     for (of, refusals) in [
-        (Function::Os2Compare, 2..=3),
-        (Function::NameCompare, 10..=18),
+        (Function::Os2Compare, &[2, 3][..]),
+        (
+            Function::NameCompare,
+            &[10, 11, 12, 13, 14, 15, 16, 17, 18, 19, 27][..],
+        ),
     ] {
         things.extend([
             Thing::OneTable(of),
@@ -204,7 +372,7 @@ pub fn all() -> Vec<Thing> {
             Thing::NoDifference(of),
             Thing::Exchanged(of),
         ]);
-        for number in refusals {
+        for &number in refusals {
             for on in sides {
                 things.push(Thing::Refused(of, on, number));
                 things.push(Thing::BothRefused(of, on, number));
@@ -248,7 +416,37 @@ pub fn all() -> Vec<Thing> {
         Thing::Largest,
         Thing::ManyRows,
     ]);
+    of_records(&mut things);
     things
+}
+
+/// The things of 'name' tables that document 02's Ask 3 asks for.
+fn of_records(things: &mut Vec<Thing>) {
+    for function in [
+        Function::NameCheck,
+        Function::Lookup,
+        Function::PostScript,
+        Function::Version,
+    ] {
+        things.extend(SPLIT.map(|number| Thing::Passed(function, number)));
+    }
+    for (number, edges) in REFUSED_EDGES {
+        things.extend(edges.iter().map(|&edge| Thing::RefusedString(number, edge)));
+    }
+    things.extend(ACCEPTED_EDGES.map(Thing::Accepted));
+    for later in [false, true] {
+        things.extend([15, 27].map(|number| Thing::StringAt(number, later)));
+        things.extend([17, 19].map(|number| Thing::KeyAt(number, later)));
+        things.extend([Place::Over, Place::Beyond].map(|place| Thing::TagAt(place, later)));
+        things.push(Thing::EqualStrings(later));
+    }
+    things.extend((0..4).map(Thing::FallsBy));
+    things.push(Thing::TwoBefore);
+    things.extend(TOGETHER.map(|(number, other)| Thing::Together(number, other)));
+    for number in OF_RECORDS {
+        things.extend(OF_RECORDS.map(|other| Thing::Behind(number, other)));
+        things.push(Thing::Behind(number, 16));
+    }
 }
 
 /// How often each thing was met.
@@ -289,7 +487,8 @@ pub fn of_room(of: Function, differences: Option<usize>, numbers: usize) -> Thin
     Thing::Room(of, room, numbers % 5)
 }
 
-/// Tells all things that two tables are met by, as the second program reads them.
+/// Tells all things that two tables are met by. Whether 'name' tables are refused is read here; else it is as the second program
+/// reads the tables.
 pub fn of_pair(pair: Pair, met: &mut dyn FnMut(Thing)) {
     let of = pair.function();
     let sides = [(Side::Left, pair.left), (Side::Right, pair.right)];
@@ -303,14 +502,14 @@ pub fn of_pair(pair: Pair, met: &mut dyn FnMut(Thing)) {
     for (this, that) in [(0, 1), (1, 0)] {
         let on = sides[this].0;
         match (refusals[this], refusals[that]) {
-            (Some(refusal), None) => {
-                met(Thing::Refused(of, on, refusal.number));
-                if let (3, Some(rule)) = (refusal.number, refusal.carries) {
-                    met(Thing::Rule(on, rule));
+            (Some((number, carries)), None) => {
+                met(Thing::Refused(of, on, number));
+                if let (3, Some(rule)) = (number, carries) {
+                    met(Thing::Rule(on, rule as u32));
                 }
             }
             (Some(refusal), Some(other)) if other != refusal => {
-                met(Thing::BothRefused(of, on, refusal.number));
+                met(Thing::BothRefused(of, on, refusal.0));
             }
             _ => {}
         }
@@ -330,10 +529,69 @@ pub fn of_pair(pair: Pair, met: &mut dyn FnMut(Thing)) {
 }
 
 /// A table's own refusal.
-fn refusal(of: Of, table: &[u8]) -> Option<Refusal> {
+fn refusal(of: Of, table: &[u8]) -> Option<Refused> {
     match of {
-        Of::Os2(level) => os2::accept(level, table).err(),
-        Of::Name => name::check(table).err(),
+        Of::Os2(level) => {
+            let refusal = os2::accept(level, table).err()?;
+            Some((refusal.number, refusal.carries.map(|place| place as usize)))
+        }
+        Of::Name => faults::refused(table),
+    }
+}
+
+/// Tells all things that one 'name' table is met by.
+pub fn of_name(table: &[u8], met: &mut dyn FnMut(Thing)) {
+    let Ok(front) = Front::of(table) else {
+        return;
+    };
+    let storage = front.storage();
+    let (number, at) = match faults::refused(table) {
+        Some((16, Some(tag))) => return met(Thing::TagAt(front.tag(tag), tag > 0)),
+        Some((number, Some(record))) => (number, record),
+        _ => {
+            for record in (0..front.records).map(|record| front.record(record)) {
+                let edges = ACCEPTED_EDGES.into_iter();
+                edges
+                    .filter(|edge| edge.holds(&record, storage))
+                    .for_each(|edge| met(Thing::Accepted(edge)));
+            }
+            return;
+        }
+    };
+    let record = front.record(at);
+    for (string, edges) in REFUSED_EDGES {
+        if string == number {
+            met(Thing::StringAt(number, at > 0));
+            edges
+                .iter()
+                .filter(|edge| edge.holds(&record, storage))
+                .for_each(|&edge| met(Thing::RefusedString(number, edge)));
+        }
+    }
+    if number == 17 || number == 19 {
+        met(Thing::KeyAt(number, at > 1));
+        let before = front.record(at - 1);
+        match (0..4).find(|&part| record.key[part] != before.key[part]) {
+            Some(part) => met(Thing::FallsBy(part)),
+            None => {
+                let place = |record: Record| [record.length, record.offset];
+                met(Thing::EqualStrings(place(record) == place(before)));
+            }
+        }
+        if at > 1 && record.key == front.key(at - 2) && number == 17 {
+            met(Thing::TwoBefore);
+        }
+    }
+    for other in OF_RECORDS {
+        if other != number && record.has(other) {
+            met(Thing::Together(number, other));
+        }
+        if (at + 1..front.records).any(|later| front.record(later).has(other)) {
+            met(Thing::Behind(number, other));
+        }
+    }
+    if (0..front.tags).any(|tag| front.tag(tag) != Place::Inside) {
+        met(Thing::Behind(number, 16));
     }
 }
 

@@ -3,7 +3,10 @@
 
 use std::fmt::{self, Display};
 
-use crate::ask::{differ, stored_keys, version_and_fs_type, Amount, Asker, Difference};
+use crate::ask::{
+    as_read, differ, own_words, stored_keys, version_and_fs_type, Amount, Asker, Difference,
+};
+use crate::faults;
 use crate::met::{self, Thing};
 use crate::numbers::Numbers;
 use crate::question::{Function, Question, Words};
@@ -153,6 +156,7 @@ impl Asker {
                     &|rows| by_crate::name_compare(left, right, rows),
                     by_crate::name_row,
                 )?;
+                as_read(&question, pair.function(), listed.0, read_names(&pair))?;
                 listed
             }
         };
@@ -261,6 +265,17 @@ impl Asker {
         }
         Ok(())
     }
+}
+
+/// The words of the first refusal of two 'name' tables by the comparison's own reading, with its side.
+fn read_names(pair: &Pair) -> Option<Words> {
+    [(1, pair.left), (2, pair.right)]
+        .into_iter()
+        .find_map(|(side, table)| {
+            let mut words = own_words(faults::refused(table)?);
+            words[3] = side;
+            Some(words)
+        })
 }
 
 /// A number of a room, and what stands there before.

@@ -253,7 +253,7 @@ fn one_string(asker: &mut Asker) -> Result<(), Found> {
     Ok(())
 }
 
-/// Tables that are refused by 10 to 18, then one that is accepted.
+/// Tables that are refused by 10 to 19 and 27, then some that are accepted.
 fn names() -> Vec<Vec<u8>> {
     let twice = ([1, 0, 0, 6], [0, 0]);
     vec![
@@ -262,11 +262,29 @@ fn names() -> Vec<Vec<u8>> {
         table(&[0, 1, 6], b""),
         table(&[1, 0, 6], b""),
         table(&[0, 0, 5], b""),
-        keyed(&[([0, 0, 0, 0], [0, 1])], b""),
+        // 15: one beyond the end and empty, the same at a later record, the last offset.
+        keyed(&[([0, 0, 0, 0], [1, 0])], b""),
+        keyed(&[([0, 0, 0, 0], [0, 0]), ([0, 0, 0, 1], [2, 0])], b"a"),
+        keyed(&[([0, 0, 0, 0], [65_535, 2])], b"a"),
         table(&[1, 0, 16, 2, 0, 0, 1, 0], b""),
-        keyed(&[twice, twice], b""),
+        table(&[1, 0, 16, 2, 0, 0, 0, 1], b""),
+        // 17, then 17 with equal keys behind it.
+        keyed(&[twice, ([1, 0, 0, 5], [0, 0])], b""),
+        keyed(
+            &[twice, ([1, 0, 0, 5], [0, 0]), ([1, 0, 0, 5], [0, 0])],
+            b"",
+        ),
         keyed(&[([0, 0, 0x8000, 0], [0, 0])], b""),
+        // 19, then 19 with falling keys behind it.
+        keyed(&[twice, twice], b""),
+        keyed(&[twice, twice, ([1, 0, 0, 5], [0, 0])], b""),
+        // 27: from the end, the same at a later record, from before it.
+        keyed(&[([0, 0, 0, 0], [0, 1])], b""),
+        keyed(&[([0, 0, 0, 0], [0, 0]), ([0, 0, 0, 1], [1, 1])], b"a"),
+        keyed(&[([0, 0, 0, 0], [1, 65_535])], b"abc"),
         keyed(&[twice], b""),
+        // An empty string at the end.
+        keyed(&[([1, 0, 0, 6], [1, 0])], b"a"),
     ]
 }
 

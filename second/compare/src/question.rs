@@ -108,10 +108,10 @@ impl Function {
     /// The refusals that the papers let the function give.
     pub fn refusals(self) -> &'static [u64] {
         match self {
-            Function::NameCheck => &[10, 11, 12, 13, 14, 15, 16, 17, 18],
-            Function::Lookup => &[10, 11, 12, 13, 14, 15, 16, 17, 18, 20],
-            Function::PostScript => &[10, 11, 12, 13, 14, 15, 16, 17, 18, 21, 22, 23, 24],
-            Function::Version => &[10, 11, 12, 13, 14, 15, 16, 17, 18, 20, 25],
+            Function::NameCheck => &[10, 11, 12, 13, 14, 15, 16, 17, 18, 19, 27],
+            Function::Lookup => &[10, 11, 12, 13, 14, 15, 16, 17, 18, 19, 20, 27],
+            Function::PostScript => &[10, 11, 12, 13, 14, 15, 16, 17, 18, 19, 21, 22, 23, 24, 27],
+            Function::Version => &[10, 11, 12, 13, 14, 15, 16, 17, 18, 19, 20, 25, 27],
             Function::Field => &[1, 2, 3, 6],
             Function::SelectionBit | Function::UnicodeBit | Function::CodePageBit => &[1, 2, 3, 7],
             Function::Os2Check
@@ -121,7 +121,7 @@ impl Function {
             Function::Write => &[3, 4, 5, 8],
             Function::Rewrite => &[2, 3, 4, 5],
             Function::Os2Compare => &[1, 2, 3, 29],
-            Function::NameCompare => &[10, 11, 12, 13, 14, 15, 16, 17, 18, 29],
+            Function::NameCompare => &[10, 11, 12, 13, 14, 15, 16, 17, 18, 19, 27, 29],
         }
     }
 

@@ -1,5 +1,6 @@
 //! The papers' rows on one table: document 01's "Examples to check against" and "Easy slips", each with the answer that stands
-//! there, and rows of document 02's Ask 1, each with the answers that follow from its words.
+//! there or that Ask 3 puts in its place, and rows of document 02's Asks 1 and 3, each with the answers that follow from its
+//! words.
 
 use crate::ask::{Amount, Asker, Difference};
 use crate::make::Made;
@@ -131,7 +132,7 @@ fn postscript(text: &str) -> Vec<u8> {
     )
 }
 
-/// The rows of document 01 in its order, then those of document 02's Ask 1.
+/// The rows of document 01 in its order, then those of document 02's Ask 1 and of its Ask 3.
 pub fn rows() -> Vec<Row> {
     let mut rows = Vec::new();
     let mut row = |words: &'static str, table: Vec<u8>, answers: Vec<(Question, Words)>| {
@@ -229,9 +230,9 @@ pub fn rows() -> Vec<Row> {
         ],
     );
     row(
-        "a string one byte longer: 15",
+        "a string one byte longer: 27 by Ask 3",
         name(&[[1, 0, 0, 1, 1, 0], [1, 0, 0, 2, 3, 1]], b"abc"),
-        vec![(Question::NameCheck, refused_at(15, 1))],
+        vec![(Question::NameCheck, refused_at(27, 1))],
     );
     row(
         "a PostScript string of 63 characters: well formed",
@@ -258,14 +259,14 @@ pub fn rows() -> Vec<Row> {
         ],
     );
     row(
-        "the listing's table with both keys (1, 0, 0, 6): refused 17 at 1",
+        "the listing's table with both keys (1, 0, 0, 6): refused 19 at 1 by Ask 3",
         name(
             &[[1, 0, 0, 6, 2, 0], [1, 0, 0, 6, 4, 2]],
             &[0x41, 0x62, 0, 0x41, 0, 0x62],
         ),
         vec![
-            (Question::NameCheck, refused_at(17, 1)),
-            (Question::PostScript, refused_at(17, 1)),
+            (Question::NameCheck, refused_at(19, 1)),
+            (Question::PostScript, refused_at(19, 1)),
         ],
     );
     row(
@@ -355,5 +356,168 @@ pub fn rows() -> Vec<Row> {
         os2(3, 96, &[(FS_TYPE, 0x000C)]),
         answers,
     );
+    for (words, table, answer) in record_rows() {
+        let asked = [
+            Question::NameCheck,
+            Question::PostScript,
+            Question::Version,
+            Question::Lookup([1, 0, 0, 1]),
+        ];
+        // Every question passes on the refusal; where the table is accepted, the check alone says so.
+        let asked = match answer {
+            ACCEPTED => &asked[..1],
+            _ => &asked[..],
+        };
+        let answers = asked.iter().map(|&question| (question, answer)).collect();
+        row(words, table, answers);
+    }
     rows
+}
+
+/// Ask 3: "17 for a key below the one before, 19 for a key equal to it. Split 15 too: 15 when the string starts beyond the
+/// storage end, 27 when it starts within or at the end and runs over."
+fn record_rows() -> Vec<(&'static str, Vec<u8>, Words)> {
+    // Key (1, 0, 0, 1) with this length and offset, on the storage `abc`.
+    let string = |length, offset| name(&[[1, 0, 0, 1, length, offset]], b"abc");
+    // The keys (1, 0, 0, `number`), all with empty strings.
+    let keys = |numbers: &[u16]| {
+        let records: Vec<_> = numbers.iter().map(|&n| [1, 0, 0, n, 0, 0]).collect();
+        name(&records, b"")
+    };
+    // Key (1, 0, 0, 2), then this record, on the storage `abc`.
+    let second = |record| name(&[[1, 0, 0, 2, 0, 0], record], b"abc");
+    vec![
+        ("Ask 3: empty, at the end", string(0, 3), ACCEPTED),
+        (
+            "Ask 3: one byte, at the end",
+            string(1, 3),
+            refused_at(27, 0),
+        ),
+        ("Ask 3: empty, one beyond", string(0, 4), refused_at(15, 0)),
+        (
+            "Ask 3: one byte, one beyond",
+            string(1, 4),
+            refused_at(15, 0),
+        ),
+        (
+            "Ask 3: offset 65535, empty",
+            string(0, 65_535),
+            refused_at(15, 0),
+        ),
+        (
+            "Ask 3: offset 0, length 65535",
+            string(65_535, 0),
+            refused_at(27, 0),
+        ),
+        (
+            "Ask 3: offset 1, length 65535: no sum in 16 bits",
+            string(65_535, 1),
+            refused_at(27, 0),
+        ),
+        (
+            "Ask 3: the last byte and one more",
+            string(2, 2),
+            refused_at(27, 0),
+        ),
+        (
+            "Ask 3: no storage, offset 0 and length 0",
+            name(&[[1, 0, 0, 1, 0, 0]], b""),
+            ACCEPTED,
+        ),
+        (
+            "Ask 3: no storage, offset 0 and length 1",
+            name(&[[1, 0, 0, 1, 1, 0]], b""),
+            refused_at(27, 0),
+        ),
+        (
+            "Ask 3: no storage, offset 1 and length 0",
+            name(&[[1, 0, 0, 1, 0, 1]], b""),
+            refused_at(15, 0),
+        ),
+        ("Ask 3: an equal key", keys(&[1, 1]), refused_at(19, 1)),
+        ("Ask 3: a lower key", keys(&[2, 1]), refused_at(17, 1)),
+        (
+            "Ask 3: equal keys behind keys that rise",
+            keys(&[1, 2, 2]),
+            refused_at(19, 2),
+        ),
+        (
+            "Ask 3: equal keys behind keys that fall",
+            keys(&[2, 1, 1]),
+            refused_at(17, 1),
+        ),
+        (
+            "Ask 3: keys that fall behind equal ones",
+            keys(&[2, 2, 1]),
+            refused_at(19, 1),
+        ),
+        (
+            "Ask 3: the key two before",
+            keys(&[1, 2, 1]),
+            refused_at(17, 2),
+        ),
+        (
+            "Ask 3: 15 before 19",
+            second([1, 0, 0, 2, 0, 4]),
+            refused_at(15, 1),
+        ),
+        (
+            "Ask 3: 15 before 17",
+            second([1, 0, 0, 1, 0, 4]),
+            refused_at(15, 1),
+        ),
+        (
+            "Ask 3: 15 before 18",
+            second([3, 0, 0x8000, 1, 1, 4]),
+            refused_at(15, 1),
+        ),
+        (
+            "Ask 3: 27 before 19",
+            second([1, 0, 0, 2, 1, 3]),
+            refused_at(27, 1),
+        ),
+        (
+            "Ask 3: 27 before 17",
+            second([1, 0, 0, 1, 4, 0]),
+            refused_at(27, 1),
+        ),
+        (
+            "Ask 3: 27 before 18",
+            second([3, 0, 0x8000, 1, 4, 0]),
+            refused_at(27, 1),
+        ),
+        (
+            "Ask 3: 18 before 17",
+            second([0, 0, 0x8000, 1, 0, 0]),
+            refused_at(18, 1),
+        ),
+        (
+            "Ask 3: 19, and 15 and 27 in the records behind",
+            name(
+                &[
+                    [1, 0, 0, 1, 0, 0],
+                    [1, 0, 0, 1, 0, 0],
+                    [1, 0, 0, 2, 0, 4],
+                    [1, 0, 0, 3, 4, 0],
+                ],
+                b"abc",
+            ),
+            refused_at(19, 1),
+        ),
+        (
+            "Ask 3: 27, and 15 in the record behind",
+            name(&[[1, 0, 0, 1, 4, 0], [1, 0, 0, 2, 0, 4]], b"abc"),
+            refused_at(27, 0),
+        ),
+        (
+            "Ask 3: a tag that starts beyond the end: 16",
+            vec![0, 1, 0, 0, 0, 12, 0, 1, 0, 0, 0, 1],
+            refused_at(16, 0),
+        ),
+        (
+            "Ask 3: a tag that runs over: 16",
+            vec![0, 1, 0, 0, 0, 12, 0, 1, 0, 1, 0, 0],
+            refused_at(16, 0),
+        ),
+    ]
 }

@@ -1,9 +1,11 @@
-//! Sweeps: every 16-bit number in the places of a small table that the rules look at, every cut of some tables, every field of
-//! the writer at the edges of its range, and every setting of the writer's fsType.
+//! Sweeps: every 16-bit number in the places of a small table that the rules look at, every string about the end of small
+//! storages, every order of few keys, every cut of some tables, every field of the writer at the edges of its range, and every
+//! setting of the writer's fsType.
 
 use second::os2::{size, FIELDS};
 
 use crate::ask::{caught, Asker, Difference, LEVELS};
+use crate::faults;
 use crate::make::{range, Made};
 use crate::question::Question;
 
@@ -18,20 +20,29 @@ pub struct Found {
 pub type Sweep = fn(&mut Asker) -> Result<(), Found>;
 
 /// The groups, each with its words.
-pub const SWEEPS: [(&str, Sweep); 4] = [
+pub const SWEEPS: [(&str, Sweep); 5] = [
     ("numbers in name tables", name),
+    ("strings and keys of name tables", records),
     ("numbers in OS/2 tables", os2),
     ("cuts", cuts),
     ("the writer's fields", writer),
 ];
 
 fn ask(asker: &mut Asker, sweep: &str, made: &Made, questions: &[Question]) -> Result<(), Found> {
-    let (Made::Name(table) | Made::Os2(table)) = made else {
-        return Ok(());
-    };
     caught(|| {
-        for &question in questions {
-            asker.ask(table, question)?;
+        match made {
+            Made::Name(table) => {
+                let read = faults::refused(table);
+                for &question in questions {
+                    asker.ask_name(table, question, read)?;
+                }
+            }
+            Made::Os2(table) => {
+                for &question in questions {
+                    asker.ask(table, question)?;
+                }
+            }
+            _ => {}
         }
         Ok(())
     })
@@ -147,6 +158,110 @@ fn name(asker: &mut Asker) -> Result<(), Found> {
                 let sweep = "every number as a part of a key";
                 ask(asker, sweep, &made, &[Question::Lookup(key)])?;
             }
+        }
+    }
+    Ok(())
+}
+
+/// A table with these records, each of a key, a length and an offset, and a storage of so many bytes; in format 1 where tags are
+/// given, each of a length and an offset.
+fn table_of(records: &[(Key, [u16; 2])], tags: Option<&[[u16; 2]]>, storage: u16) -> Vec<u8> {
+    let mut words = vec![u16::from(tags.is_some()), records.len() as u16, 0];
+    for (key, string) in records {
+        words.extend(key);
+        words.extend(string);
+    }
+    if let Some(tags) = tags {
+        words.push(tags.len() as u16);
+        words.extend(tags.concat());
+    }
+    words[2] = 2 * words.len() as u16;
+    table(&words, &b"2.51"[..usize::from(storage)])
+}
+
+type Key = [u16; 4];
+
+/// Every question on a 'name' table, with lookups of some keys.
+fn name_questions(keys: &[Key]) -> Vec<Question> {
+    let mut questions = vec![Question::NameCheck, Question::PostScript, Question::Version];
+    questions.extend(keys.iter().map(|key| Question::Lookup(key.map(u32::from))));
+    questions
+}
+
+/// What is wrong with a record: every string about the end of small storages, every order of few keys, and both at once.
+fn records(asker: &mut Asker) -> Result<(), Found> {
+    let rising: [Key; 3] = [[1, 0, 0, 5], [1, 0, 0, 6], [3, 1, 0x409, 6]];
+    let asked = name_questions(&[rising[0], rising[2], [0, 0, 0, 0]]);
+    let sweep = "every string about the end of a small storage";
+    for storage in 0..=4 {
+        let near: Vec<u16> = (0..=storage + 3).chain(65_530..=65_535).collect();
+        for number in 0..3 {
+            for &offset in &near {
+                for &length in &near {
+                    // At this record, with fine ones before and behind it.
+                    let mut records = rising.map(|key| (key, [0, 0]));
+                    records[number].1 = [length, offset];
+                    for tags in [None, Some(&[[0, 0]][..])] {
+                        let made = Made::Name(table_of(&records, tags, storage));
+                        ask(asker, sweep, &made, &asked)?;
+                    }
+                    // At this tag.
+                    let mut tags = [[0, 0]; 3];
+                    tags[number] = [length, offset];
+                    records[number].1 = [0, 0];
+                    let made = Made::Name(table_of(&records, Some(&tags), storage));
+                    ask(asker, sweep, &made, &asked)?;
+                }
+            }
+        }
+    }
+
+    // Up to three keys out of nine, which rise here, in any order, also one of them several times; then four out of four and
+    // five out of three.
+    let keys: [Key; 9] = [
+        [0, 9, 9, 9],
+        [1, 0, 0, 5],
+        [1, 0, 0, 6],
+        [1, 0, 1, 5],
+        [1, 1, 0, 5],
+        [2, 0, 0, 0],
+        [3, 1, 0x409, 6],
+        [3, 1, 0x8000, 6],
+        [0xFFFF, 0xFFFF, 0x7FFF, 0xFFFF],
+    ];
+    let sweep = "every order of few keys";
+    for (count, keys) in [
+        (1, &keys[..]),
+        (2, &keys[..]),
+        (3, &keys[..]),
+        (4, &keys[1..5]),
+        (5, &keys[1..4]),
+    ] {
+        for choice in 0..keys.len().pow(count) {
+            let records: Vec<(Key, [u16; 2])> = (0..count)
+                .map(|place| keys[choice / keys.len().pow(place) % keys.len()])
+                .map(|key| (key, [1, 0]))
+                .collect();
+            for tags in [None, Some(&[[0, 0]][..])] {
+                let made = Made::Name(table_of(&records, tags, 1));
+                ask(asker, sweep, &made, &asked)?;
+            }
+        }
+    }
+
+    // Three records, each with one of four keys, of which the last has a language that format 0 does not allow, and one of five
+    // strings: inside, empty at the end, from the end and over, beyond it and empty, beyond it.
+    let sweep = "every order of few keys with strings about the end";
+    let keys: [Key; 4] = [[1, 0, 0, 5], [1, 0, 0, 6], [1, 0, 1, 0], [1, 0, 0x8000, 0]];
+    let strings = [[1, 0], [0, 1], [1, 1], [0, 2], [1, 2]];
+    let asked = name_questions(&keys[..1]);
+    for choice in 0..8_000 {
+        let records = [choice / 400, choice / 20 % 20, choice % 20]
+            .map(|one| (keys[one / 5], strings[one % 5]));
+        for tags in [None, Some([[1, 0]]), Some([[0, 2]]), Some([[2, 0]])] {
+            let tags = tags.as_ref().map(|tags| &tags[..]);
+            let made = Made::Name(table_of(&records, tags, 1));
+            ask(asker, sweep, &made, &asked)?;
         }
     }
     Ok(())

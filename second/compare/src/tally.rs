@@ -2,7 +2,7 @@
 
 use std::fmt::Write;
 
-use crate::met::{self, Met, Thing};
+use crate::met::{self, Edge, Met, Thing};
 use crate::question::{Function, Words, FUNCTIONS};
 
 /// One more than the highest refusal number.
@@ -50,7 +50,7 @@ pub struct Tally {
     pub writes: [u64; 2],
     /// Pairs of 'name' tables, and pairs of 'OS/2' tables at a level.
     pub pairs: [u64; 2],
-    /// What the comparisons of two tables met.
+    /// What the comparisons of two tables and the questions on 'name' tables met.
     pub met: Met,
 }
 
@@ -278,13 +278,31 @@ impl Tally {
             self.met.times(Thing::Which(2)),
             self.met.times(Thing::Which(3))
         );
+        let strings = |number, edge| self.met.times(Thing::RefusedString(number, edge));
+        let _ = writeln!(
+            lines,
+            "  records' strings: 15 empty {}, with offset 65,535 {}; 27 from the end {}, from before it {}; accepted at the end and empty {}",
+            strings(15, Edge::Empty),
+            strings(15, Edge::LastOffset),
+            strings(27, Edge::FromEnd),
+            strings(27, Edge::FromBefore),
+            self.met.times(Thing::Accepted(Edge::FromEnd))
+        );
+        let _ = writeln!(
+            lines,
+            "  records' keys: 17 with 19 behind it {}, 19 with 17 behind it {}; before these, at the same record, 15 {} and 27 {}",
+            self.met.times(Thing::Behind(17, 19)),
+            self.met.times(Thing::Behind(19, 17)),
+            self.met.times(Thing::Together(15, 17)) + self.met.times(Thing::Together(15, 19)),
+            self.met.times(Thing::Together(27, 17)) + self.met.times(Thing::Together(27, 19))
+        );
         let rarest = met::all()
             .into_iter()
             .min_by_key(|&thing| self.met.times(thing));
         if let Some(thing) = rarest {
             let _ = writeln!(
                 lines,
-                "  of {} things that comparisons are to meet, the rarest was met {} times: {thing}",
+                "  of {} things of comparisons and of records that are to be met, the rarest was met {} times: {thing}",
                 met::all().len(),
                 self.met.times(thing)
             );
