@@ -28,13 +28,13 @@ tagsPass t = ltb (length t) (tagsEnd t)
 unfoldable pub misplaced : List ℕ → Bool
 misplaced t = ltb (storage t) (tagsEnd t) || ltb (length t) (storage t)
 
--- 16: a "string passes the end of storage", which is the table's end
-unfoldable pub stringPasses : List ℕ → ℕ → Bool
-stringPasses t at = ltb (length t) (stringEnd t at)
-
--- 15: "when the string starts beyond the storage end" (Ask 3)
+-- 15: "when the string starts beyond the storage end" (Ask 3), which is the table's end
 unfoldable pub startsBeyond : List ℕ → ℕ → Bool
 startsBeyond t at = ltb (length t) (stringStart t at)
+
+-- 16: a "string passes the end of storage"
+unfoldable pub stringPasses : List ℕ → ℕ → Bool
+stringPasses t at = ltb (length t) (stringEnd t at)
 
 -- 27: "when it starts within or at the end and runs over" (Ask 3)
 unfoldable pub runsOver : List ℕ → ℕ → Bool
