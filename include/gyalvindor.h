@@ -90,38 +90,43 @@ typedef struct gv_refusal {
 
 /* ---- 'name' tables */
 
-/* A string of the table: where it starts, counted from the table's first byte, and how many bytes it has. All of it lies in
-   the table: the bytes are table[start] to table[start + length - 1]. No zero byte is put after it. */
+/* A record's string: where it starts, counted from the table's first byte, how many bytes it has, and the record's number.
+   All of it lies in the table: the bytes are table[start] to table[start + length - 1]. No zero byte is put after it. Records
+   are counted from 0: the 12 bytes of this one start at byte 6 + 12 * record. Where the call is refused, record is 0 as the
+   other members are, and stands for no record. */
 typedef struct gv_text {
     gv_refusal refusal;
     size_t start;
     size_t length;
+    size_t record;
 } gv_text;
 
-/* A version number: the figures before and after the period, each below 65535. */
+/* A version number: the figures before and after the period, each below 65535, and the number of the record whose string it
+   stands in, counted as in gv_text. */
 typedef struct gv_version {
     gv_refusal refusal;
     uint32_t major;
     uint32_t minor;
+    size_t record;
 } gv_version;
 
 /* Is the table accepted? Refusals 10, 11, 12, 13, 14; then for each record 15 or 27, 18, 17 or 19; then for each tag 16. */
 gv_refusal gv_name_check(const uint8_t *table, size_t length);
 
-/* The string of the record with these four numbers. Refusals as gv_name_check, then 20. Any numbers may be asked for: a part
-   above 65535 is in no record. */
+/* The string of the record with these four numbers, and which record that is: no two records of an accepted table have the
+   same four. Refusals as gv_name_check, then 20. Any numbers may be asked for: a part above 65535 is in no record. */
 gv_text gv_name_lookup(const uint8_t *table, size_t length, uint32_t platform, uint32_t encoding, uint32_t language,
                        uint32_t name);
 
-/* The PostScript name, as the string of the record (1, 0, 0, 6): one byte a character, 1 to 63 characters with codes 33 to
-   126 without [ ] ( ) { } < > / %. The record (3, 1, 0x409, 6) must hold the same name, two bytes a character. Refusals as
-   gv_name_check, then 21, 22, 23, 24, in this order. */
+/* The PostScript name, as the string of the record (1, 0, 0, 6), whose number is answered too: one byte a character, 1 to 63
+   characters with codes 33 to 126 without [ ] ( ) { } < > / %. The record (3, 1, 0x409, 6) must hold the same name, two bytes
+   a character. Refusals as gv_name_check, then 21, 22, 23, 24, in this order. */
 gv_text gv_name_postscript(const uint8_t *table, size_t length);
 
-/* The version number, from the string of the record (3, 1, 0x409, 5), or of (1, 0, 0, 5) where there is no such record.
-   It is the first place in the string with digits, a period, digits: both groups as long as they go and below 65535, the first
-   not behind a digit. The string of (3, 1, 0x409, 5) has two bytes a character; an odd length gives 25. Refusals as
-   gv_name_check, then 20, 25. */
+/* The version number, from the string of the record (3, 1, 0x409, 5), or of (1, 0, 0, 5) where there is no such record; the
+   number of the one that was used is answered too. It is the first place in the string with digits, a period, digits: both
+   groups as long as they go and below 65535, the first not behind a digit. The string of (3, 1, 0x409, 5) has two bytes a
+   character; an odd length gives 25. Refusals as gv_name_check, then 20, 25. */
 gv_version gv_name_version(const uint8_t *table, size_t length);
 
 /* ---- 'OS/2' tables

@@ -17,11 +17,20 @@ pub enum Answer<T> {
     NotKnown,
 }
 
-/// A string's start, from the table's first byte, and its length.
+/// A record's string, by its start, from the table's first byte, and its length, and the record's number.
 #[derive(Clone, Copy, Debug, PartialEq)]
 pub struct Text {
     pub start: usize,
     pub length: usize,
+    pub record: usize,
+}
+
+/// A version number, and the number of the record whose string it stands in.
+#[derive(Clone, Copy, Debug, PartialEq)]
+pub struct Version {
+    pub major: u16,
+    pub minor: u16,
+    pub record: usize,
 }
 
 /// Optical sizes, in points.

@@ -1,6 +1,6 @@
 //! The proved library, as `include/gyalvindor.h` declares it.
 
-use crate::answers::{Answer, Compared, Optical, Refusal, Result, Text, Written};
+use crate::answers::{Answer, Compared, Optical, Refusal, Result, Text, Version, Written};
 
 #[repr(C)]
 #[derive(Clone, Copy)]
@@ -15,6 +15,7 @@ pub struct GvText {
     refusal: GvRefusal,
     start: usize,
     length: usize,
+    record: usize,
 }
 
 #[repr(C)]
@@ -22,6 +23,7 @@ pub struct GvVersion {
     refusal: GvRefusal,
     major: u32,
     minor: u32,
+    record: usize,
 }
 
 #[repr(C)]
@@ -245,6 +247,7 @@ pub fn lookup(t: &[u8], key: [u16; 4]) -> Result<Text> {
         Text {
             start: r.start,
             length: r.length,
+            record: r.record,
         },
     )
 }
@@ -256,13 +259,21 @@ pub fn postscript(t: &[u8]) -> Result<Text> {
         Text {
             start: r.start,
             length: r.length,
+            record: r.record,
         },
     )
 }
 
-pub fn version(t: &[u8]) -> Result<(u16, u16)> {
+pub fn version(t: &[u8]) -> Result<Version> {
     let r = raw::version(t);
-    none_or(r.refusal, (r.major as u16, r.minor as u16))
+    none_or(
+        r.refusal,
+        Version {
+            major: r.major as u16,
+            minor: r.minor as u16,
+            record: r.record,
+        },
+    )
 }
 
 pub fn check_os2(t: &[u8], level: u32) -> Result<()> {

@@ -1,7 +1,7 @@
 //! Plain safe Rust: the rules written down one after the other, each number read where it is wanted.
 
 use crate::answers::{
-    Answer, Compared, Optical, Refusal, Result, Text, Written, refuse, refuse_at,
+    Answer, Compared, Optical, Refusal, Result, Text, Version, Written, refuse, refuse_at,
 };
 use std::cmp::Ordering;
 
@@ -121,6 +121,7 @@ fn find(t: &[u8], key: Key) -> Option<Text> {
                 return Some(Text {
                     start: u16_at(t, 4) as usize + record.offset as usize,
                     length: record.length as usize,
+                    record: middle,
                 });
             }
         }
@@ -141,6 +142,12 @@ fn bytes(t: &[u8], text: Text) -> &[u8] {
     &t[text.start..text.start + text.length]
 }
 
+/// The bytes of a record's string.
+fn string<'a>(t: &'a [u8], record: &Record) -> &'a [u8] {
+    let start = u16_at(t, 4) as usize + record.offset as usize;
+    &t[start..start + record.length as usize]
+}
+
 /// The keys in which two accepted tables differ, in their order, each with 1 for only left, 2 for only right, 3 for other bytes.
 struct KeyDifferences<'a> {
     left: &'a [u8],
@@ -153,10 +160,6 @@ impl Iterator for KeyDifferences<'_> {
     type Item = (Key, u16);
 
     fn next(&mut self) -> Option<(Key, u16)> {
-        let string = |t: &[u8], record: &Record| Text {
-            start: u16_at(t, 4) as usize + record.offset as usize,
-            length: record.length as usize,
-        };
         loop {
             let here = self.i < u16_at(self.left, 2) as usize;
             let there = self.j < u16_at(self.right, 2) as usize;
@@ -184,9 +187,7 @@ impl Iterator for KeyDifferences<'_> {
                     ];
                     self.i += 1;
                     self.j += 1;
-                    if bytes(self.left, string(self.left, &a))
-                        != bytes(self.right, string(self.right, &b))
-                    {
+                    if string(self.left, &a) != string(self.right, &b) {
                         return Some((a.key(), 3));
                     }
                 }
@@ -311,7 +312,7 @@ fn version_in(text: &[u8], wide: bool) -> Option<(u16, u16)> {
 }
 
 #[inline(never)]
-pub fn version(t: &[u8]) -> Result<(u16, u16)> {
+pub fn version(t: &[u8]) -> Result<Version> {
     check(t)?;
     version_of(t, find(t, (3, 1, 0x409, 5)), || find(t, (1, 0, 0, 5)))
 }
@@ -320,16 +321,20 @@ pub fn version_of(
     t: &[u8],
     wide: Option<Text>,
     narrow: impl FnOnce() -> Option<Text>,
-) -> Result<(u16, u16)> {
-    let found = if let Some(text) = wide {
-        version_in(bytes(t, text), true)
+) -> Result<Version> {
+    let (text, two_bytes) = if let Some(text) = wide {
+        (text, true)
     } else if let Some(text) = narrow() {
-        version_in(bytes(t, text), false)
+        (text, false)
     } else {
         return refuse(20);
     };
-    match found {
-        Some(number) => Ok(number),
+    match version_in(bytes(t, text), two_bytes) {
+        Some((major, minor)) => Ok(Version {
+            major,
+            minor,
+            record: text.record,
+        }),
         None => refuse(25),
     }
 }

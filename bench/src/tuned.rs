@@ -1,6 +1,6 @@
 //! Tuned safe Rust: it loads whole words, the key as one number of 64 bits, and the writer fills bytes of its own.
 
-use crate::answers::{Answer, Result, Text, Written, refuse, refuse_at};
+use crate::answers::{Answer, Result, Text, Version, Written, refuse, refuse_at};
 use crate::plain::{self, FIELDS};
 
 fn u16_at(t: &[u8], at: usize) -> usize {
@@ -81,6 +81,7 @@ fn find(t: &[u8], wanted: u64) -> Option<Text> {
             return Some(Text {
                 start: u16_at(t, 4) + u16_at(record, 10),
                 length: u16_at(record, 8),
+                record: middle,
             });
         }
         if here < wanted {
@@ -116,7 +117,7 @@ pub fn postscript(t: &[u8]) -> Result<Text> {
 }
 
 #[inline(never)]
-pub fn version(t: &[u8]) -> Result<(u16, u16)> {
+pub fn version(t: &[u8]) -> Result<Version> {
     check(t)?;
     plain::version_of(t, find(t, number([3, 1, 0x409, 5])), || {
         find(t, number([1, 0, 0, 5]))

@@ -28,9 +28,11 @@
 //!
 //! let text = name::postscript(&table)?;
 //! assert_eq!(&table[text.range()], b"Ab");
+//! assert_eq!(text.record, 0);
 //!
 //! let version = name::version(&table)?;
 //! assert_eq!((version.major, version.minor), (2, 5));
+//! assert_eq!(version.record, 1);
 //!
 //! // Name 1 is the family name; this table has none.
 //! assert_eq!(name::lookup(&table, 3, 1, 0x409, 1), Err(Refusal::NoRecord));

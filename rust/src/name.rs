@@ -10,13 +10,15 @@ use core::ops::Range;
 use crate::raw;
 use crate::{CompareRefusal, Refusal};
 
-/// Where a string lies in the table.
+/// A record's string: where it lies in the table, and which record it is of.
 #[derive(Clone, Copy, Debug, PartialEq, Eq, Hash)]
 pub struct Text {
     /// The string's first byte, counted from the table's first byte.
     pub start: usize,
     /// How many bytes it has.
     pub length: usize,
+    /// The record's number. Records are counted from 0.
+    pub record: usize,
 }
 
 impl Text {
@@ -25,7 +27,7 @@ impl Text {
     /// ```
     /// use gyalvindor::name::Text;
     ///
-    /// assert_eq!(Text { start: 42, length: 2 }.range(), 42..44);
+    /// assert_eq!(Text { start: 42, length: 2, record: 0 }.range(), 42..44);
     /// ```
     pub const fn range(self) -> Range<usize> {
         self.start..self.start + self.length
@@ -39,6 +41,8 @@ pub struct Version {
     pub major: u32,
     /// The figure after the period, below 65,535.
     pub minor: u32,
+    /// The number of the record whose string it stands in. Records are counted from 0.
+    pub record: usize,
 }
 
 /// Is the table accepted?
@@ -77,9 +81,10 @@ pub fn check(table: &[u8]) -> Result<(), Refusal> {
     Refusal::checked(raw::name_check(table))
 }
 
-/// The string of the record with this key. How its bytes are to be read depends on platform and encoding.
+/// The string of the record with this key, and the record's number. How its bytes are to be read depends on platform and
+/// encoding.
 ///
-/// Any numbers may be asked for; a part above 65,535 is in no record.
+/// Any numbers may be asked for; a part above 65,535 is in no record. No two records of an accepted table have the same key.
 ///
 /// # Errors
 ///
@@ -90,18 +95,26 @@ pub fn check(table: &[u8]) -> Result<(), Refusal> {
 /// ```
 /// use gyalvindor::{name, Refusal};
 ///
-/// let table = [
-///     0, 0, 0, 1, 0, 18, // format 0, one record, storage starts at byte 18
-///     0, 3, 0, 1, 4, 9, 0, 1, 0, 4, 0, 0, // (3, 1, 0x409, 1), length 4, offset 0
-///     0, b'A', 0, b'b',
+/// let mut table = [
+///     0, 0, 0, 2, 0, 30, // format 0, two records, storage starts at byte 30
+///     0, 1, 0, 0, 0, 0, 0, 1, 0, 2, 0, 4, // record 0: (1, 0, 0, 1), length 2, offset 4
+///     0, 3, 0, 1, 4, 9, 0, 1, 0, 4, 0, 0, // record 1: (3, 1, 0x409, 1), length 4, offset 0
+///     0, b'A', 0, b'b', b'A', b'b',
 /// ];
 ///
 /// let family = name::lookup(&table, 3, 1, 0x409, 1)?;
-/// assert_eq!((family.start, family.length), (18, 4));
+/// assert_eq!((family.start, family.length, family.record), (30, 4, 1));
 /// assert_eq!(table[family.range()], [0, b'A', 0, b'b']);
 ///
-/// assert_eq!(name::lookup(&table, 3, 1, 0x409, 2), Err(Refusal::NoRecord));
+/// assert_eq!(name::lookup(&table, 3, 1, 0x409, 16), Err(Refusal::NoRecord));
 /// assert_eq!(name::lookup(&table, 3 + 65_536, 1, 0x409, 1), Err(Refusal::NoRecord));
+///
+/// // The record can be edited where it stands: its name number becomes 16.
+/// let at = 6 + 12 * family.record;
+/// assert_eq!(table[at..at + 8], [0, 3, 0, 1, 4, 9, 0, 1]);
+/// table[at + 7] = 16;
+/// assert_eq!(name::lookup(&table, 3, 1, 0x409, 16), Ok(family));
+/// assert_eq!(name::lookup(&table, 3, 1, 0x409, 1), Err(Refusal::NoRecord));
 /// # Ok::<(), Refusal>(())
 /// ```
 pub fn lookup(
@@ -117,7 +130,7 @@ pub fn lookup(
     ))
 }
 
-/// The PostScript name: the string of the record (1, 0, 0, 6), one byte a character.
+/// The PostScript name: the string of the record (1, 0, 0, 6), one byte a character, and that record's number.
 ///
 /// A font states it twice, there and in the record (3, 1, 0x409, 6) with two bytes a character, and both have to be there,
 /// well formed and equal. Well formed means 1 to 63 characters with codes 33 to 126, without `[ ] ( ) { } < > / %`.
@@ -140,6 +153,7 @@ pub fn lookup(
 /// ];
 /// let text = name::postscript(&table)?;
 /// assert_eq!(&table[text.range()], b"Ab");
+/// assert_eq!(text.record, 0);
 ///
 /// table[31] = b'c';
 /// assert_eq!(name::postscript(&table), Err(Refusal::PostScriptDiffer));
@@ -151,8 +165,8 @@ pub fn postscript(table: &[u8]) -> Result<Text, Refusal> {
     text(raw::name_postscript(table))
 }
 
-/// The version number in the version string: the string of (3, 1, 0x409, 5), or of (1, 0, 0, 5) where that record is not
-/// there.
+/// The version number in the version string, the string of (3, 1, 0x409, 5), or of (1, 0, 0, 5) where that record is not
+/// there, and the number of the record that was used.
 ///
 /// A number is digits, a period, digits, each group as long as it goes and below 65,535. The first place from the left that
 /// yields a number wins.
@@ -172,7 +186,7 @@ pub fn postscript(table: &[u8]) -> Result<Text, Refusal> {
 ///     0, 1, 0, 0, 0, 0, 0, 5, 0, 19, 0, 0, // (1, 0, 0, 5), length 19, offset 0
 /// ];
 /// table.extend(b"Version 1.70000 2.5");
-/// assert_eq!(name::version(&table), Ok(Version { major: 2, minor: 5 }));
+/// assert_eq!(name::version(&table), Ok(Version { major: 2, minor: 5, record: 0 }));
 ///
 /// table[15] = 15; // the string is `Version 1.70000`
 /// assert_eq!(name::version(&table), Err(Refusal::NoVersionNumber));
@@ -183,6 +197,7 @@ pub fn version(table: &[u8]) -> Result<Version, Refusal> {
     Ok(Version {
         major: raw.major,
         minor: raw.minor,
+        record: raw.record,
     })
 }
 
@@ -191,6 +206,7 @@ fn text(raw: raw::Text) -> Result<Text, Refusal> {
     Ok(Text {
         start: raw.start,
         length: raw.length,
+        record: raw.record,
     })
 }
 

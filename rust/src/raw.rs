@@ -27,6 +27,7 @@ pub(crate) struct Text {
     pub(crate) refusal: Refusal,
     pub(crate) start: usize,
     pub(crate) length: usize,
+    pub(crate) record: usize,
 }
 
 /// `gv_version`.
@@ -36,6 +37,7 @@ pub(crate) struct Version {
     pub(crate) refusal: Refusal,
     pub(crate) major: u32,
     pub(crate) minor: u32,
+    pub(crate) record: usize,
 }
 
 /// `gv_number`.

@@ -1,6 +1,6 @@
 //! A second, independent reader of 'name' tables, reader and writer of 'OS/2'
 //! tables and comparison of two of either, written from document 01, "The font
-//! desk's rules for 'name' and 'OS/2'", and Asks 1 to 3 of document 02, "The
+//! desk's rules for 'name' and 'OS/2'", and Asks 1 to 4 of document 02, "The
 //! next customer requests", alone.
 //!
 //! It exists to be compared with another program. So it is written for plain

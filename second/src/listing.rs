@@ -15,7 +15,8 @@ use crate::Refusal;
 pub const LONGEST: usize = 65_536;
 
 /// The lines for one 'name' table, each ended by a line feed, exactly as
-/// document 01 shows them.
+/// document 01 shows them. Behind a name and a version that is found stands the
+/// record's number (document 02, Ask 4).
 pub fn name(bytes: &[u8]) -> String {
     if bytes.len() > LONGEST {
         return "too long\n".to_string();
@@ -47,20 +48,26 @@ pub fn name(bytes: &[u8]) -> String {
         );
     }
     match name::postscript(bytes) {
-        Ok(span) => {
+        Ok(found) => {
             // A well-formed PostScript name holds only codes 33 to 126.
-            let text: String = bytes[span.start..span.start + span.length]
+            let text: String = bytes[found.start..found.start + found.length]
                 .iter()
                 .map(|&byte| char::from(byte))
                 .collect();
-            line(&mut lines, format_args!("postscript {text}"));
+            line(
+                &mut lines,
+                format_args!("postscript {text} record {}", found.record),
+            );
         }
         Err(refusal) => line(&mut lines, format_args!("postscript {refusal}")),
     }
     match name::version(bytes) {
         Ok(version) => line(
             &mut lines,
-            format_args!("version {} {}", version.major, version.minor),
+            format_args!(
+                "version {} {} record {}",
+                version.major, version.minor, version.record
+            ),
         ),
         Err(refusal) => line(&mut lines, format_args!("version {refusal}")),
     }

@@ -77,28 +77,70 @@ pub struct Table {
 }
 
 impl Table {
+    /// The first byte of a record's string, from the table's first byte.
+    fn start_of(&self, record: &Record) -> usize {
+        self.storage_start + usize::from(record.offset)
+    }
+
     /// A record's string bytes, out of the table's bytes.
     pub fn string_of<'a>(&self, record: &Record, bytes: &'a [u8]) -> &'a [u8] {
-        string(bytes, span(self, record))
+        let start = self.start_of(record);
+        &bytes[start..start + usize::from(record.length)]
+    }
+
+    /// The string bytes of the record with this number, which is there.
+    fn string<'a>(&self, number: usize, bytes: &'a [u8]) -> &'a [u8] {
+        self.string_of(&self.records[number], bytes)
+    }
+
+    /// The answer for the record with this number, which is there.
+    fn text(&self, number: usize) -> Text {
+        let record = &self.records[number];
+        Text {
+            start: self.start_of(record),
+            length: usize::from(record.length),
+            record: number,
+        }
+    }
+
+    /// The number of the record with this key, if one has it. The records are
+    /// looked at one after another.
+    fn number_of(&self, key: Key) -> Option<usize> {
+        (0..self.records.len()).find(|&number| self.records[number].key() == key)
     }
 }
 
-/// A string's place in the table.
+/// A record's string: its place in the table, and the record's number (document
+/// 02, Ask 4).
 #[derive(Clone, Copy, Debug, PartialEq, Eq)]
-pub struct Span {
+pub struct Text {
     /// The string's first byte, from the table's first byte.
     pub start: usize,
     /// The string's length in bytes.
     pub length: usize,
+    /// The record's number, counted from 0.
+    pub record: usize,
 }
 
-/// A version number: the figures before and after the period.
+/// The figures before and after the period of a version text.
+#[derive(Clone, Copy, Debug, PartialEq, Eq)]
+pub struct Figures {
+    /// The figure before the period, below 65,535.
+    pub major: u32,
+    /// The figure after the period, below 65,535.
+    pub minor: u32,
+}
+
+/// A version number: its figures, and the number of the record in whose string
+/// it stands (document 02, Ask 4).
 #[derive(Clone, Copy, Debug, PartialEq, Eq)]
 pub struct Version {
     /// The figure before the period, below 65,535.
     pub major: u32,
     /// The figure after the period, below 65,535.
     pub minor: u32,
+    /// The number of the record that was used, counted from 0.
+    pub record: usize,
 }
 
 /// Checks the whole table. Refusals: 10, 11, 12, 13, 14; then record by record
@@ -241,56 +283,35 @@ fn language_allowed(format: u16, platform: u16, language: u16, tag_count: usize)
     }
 }
 
-/// Looks a key up. Refusals: those of [`check`], then 20 when no record has
-/// the key. A part above 65,535 is found in no record.
+/// Looks a key up: the string's place and the number of the record that has the
+/// key. Refusals: those of [`check`], then 20 when no record has it. A part above
+/// 65,535 is found in no record.
 pub fn lookup(
     bytes: &[u8],
     platform: u32,
     encoding: u32,
     language: u32,
     name: u32,
-) -> Result<Span, Refusal> {
+) -> Result<Text, Refusal> {
     let table = read(bytes)?;
-    for record in &table.records {
+    for (number, record) in table.records.iter().enumerate() {
         if u32::from(record.platform) == platform
             && u32::from(record.encoding) == encoding
             && u32::from(record.language) == language
             && u32::from(record.name) == name
         {
-            return Ok(span(&table, record));
+            return Ok(table.text(number));
         }
     }
     Err(Refusal::plain(20))
 }
 
-/// The place of a record's string in its table.
-fn span(table: &Table, record: &Record) -> Span {
-    Span {
-        start: table.storage_start + usize::from(record.offset),
-        length: usize::from(record.length),
-    }
-}
-
-/// The place of the string with this key, if a record has it.
-fn find(table: &Table, key: Key) -> Option<Span> {
-    table
-        .records
-        .iter()
-        .find(|record| record.key() == key)
-        .map(|record| span(table, record))
-}
-
-/// The bytes at a string's place.
-fn string(bytes: &[u8], span: Span) -> &[u8] {
-    &bytes[span.start..span.start + span.length]
-}
-
-/// The PostScript name's place, which is that of the record (1, 0, 0, 6).
+/// The PostScript name's place and record, which are those of (1, 0, 0, 6).
 /// Refusals: those of [`check`], then 21, 22, 23, 24.
-pub fn postscript(bytes: &[u8]) -> Result<Span, Refusal> {
+pub fn postscript(bytes: &[u8]) -> Result<Text, Refusal> {
     let table = read(bytes)?;
-    let one_byte = find(&table, POSTSCRIPT_ONE_BYTE);
-    let two_byte = find(&table, POSTSCRIPT_TWO_BYTE);
+    let one_byte = table.number_of(POSTSCRIPT_ONE_BYTE);
+    let two_byte = table.number_of(POSTSCRIPT_TWO_BYTE);
     let (first, second) = match (one_byte, two_byte) {
         (None, None) => return Err(Refusal::plain(21)),
         (Some(_), None) | (None, Some(_)) => return Err(Refusal::plain(22)),
@@ -299,8 +320,8 @@ pub fn postscript(bytes: &[u8]) -> Result<Span, Refusal> {
 
     // 23: both must be well formed before they are compared. The second has an
     // even length.
-    let first_characters = one_byte_characters(string(bytes, first));
-    let second_characters = match two_byte_characters(string(bytes, second)) {
+    let first_characters = one_byte_characters(table.string(first, bytes));
+    let second_characters = match two_byte_characters(table.string(second, bytes)) {
         Some(characters) => characters,
         None => return Err(Refusal::plain(23)),
     };
@@ -312,7 +333,7 @@ pub fn postscript(bytes: &[u8]) -> Result<Span, Refusal> {
     if first_characters != second_characters {
         return Err(Refusal::plain(24));
     }
-    Ok(first)
+    Ok(table.text(first))
 }
 
 /// The characters of a string with one byte a character.
@@ -343,34 +364,39 @@ fn is_postscript_character(character: u16) -> bool {
     }
 }
 
-/// The version number. Refusals: those of [`check`], then 20 when there is
-/// neither version string, then 25 when the one that counts holds no number.
+/// The version number and the record that it was taken from. Refusals: those of
+/// [`check`], then 20 when there is neither version string, then 25 when the one
+/// that counts holds no number.
 pub fn version(bytes: &[u8]) -> Result<Version, Refusal> {
     let table = read(bytes)?;
-    let characters = if let Some(span) = find(&table, VERSION_TWO_BYTE) {
-        match two_byte_characters(string(bytes, span)) {
-            Some(characters) => characters,
+    let (record, characters) = if let Some(number) = table.number_of(VERSION_TWO_BYTE) {
+        match two_byte_characters(table.string(number, bytes)) {
+            Some(characters) => (number, characters),
             None => return Err(Refusal::plain(25)),
         }
-    } else if let Some(span) = find(&table, VERSION_ONE_BYTE) {
-        one_byte_characters(string(bytes, span))
+    } else if let Some(number) = table.number_of(VERSION_ONE_BYTE) {
+        (number, one_byte_characters(table.string(number, bytes)))
     } else {
         return Err(Refusal::plain(20));
     };
     match version_in(&characters) {
-        Some(version) => Ok(version),
+        Some(Figures { major, minor }) => Ok(Version {
+            major,
+            minor,
+            record,
+        }),
         None => Err(Refusal::plain(25)),
     }
 }
 
 /// The number at the first start, from the left, that yields one. A start that
-/// fails is given up and every later start is tried.
-pub fn version_in(characters: &[u16]) -> Option<Version> {
+/// fails is given up and every later start is tried. A bare text has no record.
+pub fn version_in(characters: &[u16]) -> Option<Figures> {
     (0..characters.len()).find_map(|start| version_at(characters, start))
 }
 
 /// The number that starts exactly at `start`, if one does.
-fn version_at(characters: &[u16], start: usize) -> Option<Version> {
+fn version_at(characters: &[u16], start: usize) -> Option<Figures> {
     // The first group doesn't follow a digit.
     if start > 0 && digit(characters[start - 1]).is_some() {
         return None;
@@ -383,7 +409,7 @@ fn version_at(characters: &[u16], start: usize) -> Option<Version> {
     let (minor, _) = digits(characters, after_major + 1)?;
     // Each group's figure is below 65,535.
     if major < 65_535 && minor < 65_535 {
-        Some(Version { major, minor })
+        Some(Figures { major, minor })
     } else {
         None
     }

@@ -596,7 +596,7 @@ fn rows_are_the_lookups_that_differ() {
                 let (p, e, l, n) = asked;
                 name::lookup(table, p.into(), e.into(), l.into(), n.into())
                     .ok()
-                    .map(|span| &table[span.start..span.start + span.length])
+                    .map(|text| &table[text.start..text.start + text.length])
             });
             let which = match found {
                 [Some(_), None] => Which::OnlyLeft,

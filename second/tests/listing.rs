@@ -20,7 +20,7 @@ fn example_of_the_document() {
         "name format 0 records 2 storage 6\n\
          0 1 0 0 6 0 2\n\
          1 3 1 1033 6 2 4\n\
-         postscript Ab\n\
+         postscript Ab record 0\n\
          version refused 20\n"
     );
 }
@@ -84,7 +84,7 @@ fn version_and_postscript_lines() {
          0 1 0 0 5 0 19\n\
          1 1 0 0 6 19 2\n\
          postscript refused 22\n\
-         version 2 5\n"
+         version 2 5 record 0\n"
     );
     let end = |strings: &[Named]| {
         let lines = listing::name(&named(strings));
@@ -111,9 +111,45 @@ fn version_and_postscript_lines() {
     for text in [&all[..42], &all[42..]] {
         assert_eq!(
             ps(text.as_bytes(), &wide(text)),
-            format!("postscript {text}|version refused 20")
+            format!("postscript {text} record 0|version refused 20")
         );
     }
+}
+
+/// The numbers are those that stand at the front of the records' lines.
+#[test]
+fn the_lines_of_the_records_that_were_used() {
+    let both = named(&[
+        ((0, 3, 0, 6), b"Cd"),
+        ((1, 0, 0, 5), b"1.2"),
+        ((1, 0, 0, 6), b"Ab"),
+        ((3, 1, 0x409, 4), b""),
+        ((3, 1, 0x409, 5), &wide("2.5")),
+        ((3, 1, 0x409, 6), &wide("Ab")),
+    ]);
+    assert_eq!(
+        listing::name(&both),
+        "name format 0 records 6 storage 17\n\
+         0 0 3 0 6 0 2\n\
+         1 1 0 0 5 2 3\n\
+         2 1 0 0 6 5 2\n\
+         3 3 1 1033 4 7 0\n\
+         4 3 1 1033 5 7 6\n\
+         5 3 1 1033 6 13 4\n\
+         postscript Ab record 2\n\
+         version 2 5 record 4\n"
+    );
+    // The version of platform 1, and numbers of two digits: ten records before.
+    let mut strings: Vec<Named> = (0..10).map(|n| ((0, 3, 0, n), &b"x"[..])).collect();
+    let second = wide("Ab");
+    strings.extend([
+        ((1, 0, 0, 5), &b"v 0.07"[..]),
+        ((1, 0, 0, 6), b"Ab"),
+        ((3, 1, 0x409, 6), &second),
+    ]);
+    let lines = listing::name(&named(&strings));
+    assert!(lines.contains("\n10 1 0 0 5 10 6\n11 1 0 0 6 16 2\n12 3 1 1033 6 18 4\n"));
+    assert!(lines.ends_with("\npostscript Ab record 11\nversion 0 7 record 10\n"));
 }
 
 #[test]

@@ -3,7 +3,7 @@
 mod common;
 
 use common::*;
-use second::name::{self, Span, Version};
+use second::name::{self, Text, Version};
 use second::Refusal;
 
 const PS1: (u16, u16, u16, u16) = (1, 0, 0, 6);
@@ -654,8 +654,8 @@ fn every_question_passes_on_what_is_wrong_with_a_record() {
         [3, 1, 0x409, 6, 4, 2],
     ];
     let fine = name0(&records, storage);
-    assert_eq!(name::postscript(&fine).map(|span| span.length), Ok(2));
-    assert_eq!(name::version(&fine), found(2, 5));
+    assert_eq!(name::postscript(&fine), at(54, 2, 1));
+    assert_eq!(name::version(&fine), found_in(2, 5, 2));
     for (number, last) in [
         (15, [3, 1, 0x409, 7, 0, 16]),
         (15, [3, 1, 0x409, 7, 0, 65_535]),
@@ -674,15 +674,29 @@ fn every_question_passes_on_what_is_wrong_with_a_record() {
 
 // ---- the lookup ----
 
+/// A string's place, and its record.
+fn at(start: usize, length: usize, record: usize) -> Result<Text, Refusal> {
+    Ok(Text {
+        start,
+        length,
+        record,
+    })
+}
+
+/// The answer to a key.
+fn lookup(table: &[u8], key: (u16, u16, u16, u16)) -> Result<Text, Refusal> {
+    let (p, e, l, n) = key;
+    name::lookup(table, p.into(), e.into(), l.into(), n.into())
+}
+
 #[test]
 fn lookup_counts_from_the_first_byte() {
     let table = name0(
         &[[1, 0, 0, 6, 2, 0], [3, 1, 0x409, 6, 4, 2]],
         &[0x41, 0x62, 0, 0x41, 0, 0x62],
     );
-    let at = |start, length| Ok(Span { start, length });
-    assert_eq!(name::lookup(&table, 1, 0, 0, 6), at(30, 2));
-    assert_eq!(name::lookup(&table, 3, 1, 0x409, 6), at(32, 4));
+    assert_eq!(name::lookup(&table, 1, 0, 0, 6), at(30, 2, 0));
+    assert_eq!(name::lookup(&table, 3, 1, 0x409, 6), at(32, 4, 1));
     assert_eq!(name::lookup(&table, 3, 1, 0x409, 5), no(20));
     // Parts above 65,535 don't wrap.
     assert_eq!(name::lookup(&table, 65_537, 0, 0, 6), no(20));
@@ -704,7 +718,8 @@ fn lookup_agrees_with_a_map() {
         let map: std::collections::BTreeMap<_, _> = contents
             .records
             .iter()
-            .map(|r| (r.key(), (start + r.offset as usize, r.length as usize)))
+            .enumerate()
+            .map(|(n, r)| (r.key(), (start + r.offset as usize, r.length as usize, n)))
             .collect();
         assert_eq!(map.len(), contents.records.len());
         for platform in [0, 1, 3, 240] {
@@ -712,19 +727,18 @@ fn lookup_agrees_with_a_map() {
                 for language in [0, 0x409, 0x8000, 0x8001] {
                     for number in [5, 6, 7] {
                         let expected = match map.get(&(platform, encoding, language, number)) {
-                            Some(&(start, length)) => Ok(Span { start, length }),
+                            Some(&(start, length, record)) => at(start, length, record),
                             None => no(20),
                         };
-                        let result = name::lookup(
-                            &table,
-                            platform.into(),
-                            encoding.into(),
-                            language.into(),
-                            number.into(),
-                        );
+                        let key = (platform, encoding, language, number);
+                        let result = lookup(&table, key);
                         assert_eq!(result, expected);
-                        if let Ok(span) = result {
-                            assert!(span.start + span.length <= table.len());
+                        if let Ok(text) = result {
+                            assert!(text.start + text.length <= table.len());
+                            // The record's twelve bytes begin with the key.
+                            let at = 6 + 12 * text.record;
+                            let key = words(&[platform, encoding, language, number]);
+                            assert_eq!(table[at..at + 8], key);
                         }
                     }
                 }
@@ -739,10 +753,9 @@ fn strings_may_overlap_and_be_empty() {
         &[[0, 0, 0, 0, 4, 0], [0, 0, 0, 1, 3, 1], [0, 0, 0, 2, 0, 4]],
         b"abcd",
     );
-    let at = |start, length| Ok(Span { start, length });
-    assert_eq!(name::lookup(&table, 0, 0, 0, 0), at(42, 4));
-    assert_eq!(name::lookup(&table, 0, 0, 0, 1), at(43, 3));
-    assert_eq!(name::lookup(&table, 0, 0, 0, 2), at(46, 0));
+    assert_eq!(name::lookup(&table, 0, 0, 0, 0), at(42, 4, 0));
+    assert_eq!(name::lookup(&table, 0, 0, 0, 1), at(43, 3, 1));
+    assert_eq!(name::lookup(&table, 0, 0, 0, 2), at(46, 0, 2));
 }
 
 #[test]
@@ -750,23 +763,205 @@ fn a_gap_before_the_storage() {
     // Storage start 20 where the records end at 18.
     let mut table = name0(&[[1, 0, 0, 5, 3, 1]], b"--x1.2");
     put(&mut table, 4, 20);
-    let at = Ok(Span {
-        start: 21,
-        length: 3,
-    });
-    assert_eq!(name::lookup(&table, 1, 0, 0, 5), at);
+    assert_eq!(name::lookup(&table, 1, 0, 0, 5), at(21, 3, 0));
     assert_eq!(name::version(&table), found(1, 2));
+}
+
+// ---- which record it was ----
+
+/// Every record of tables of up to nine records, in both formats, is found with
+/// its own number; keys that no record has are in none.
+#[test]
+fn every_record_has_its_number() {
+    for count in 0..=9_u16 {
+        // Even names; strings of lengths 0, 1 and 2 at any places.
+        let records: Vec<Entry> = (0..count)
+            .map(|n| [1, 0, 0, 2 * n, n % 3, (5 * n + 1) % 7])
+            .collect();
+        for (table, start) in [
+            (name0(&records, &[0; 9]), 6 + 12 * records.len()),
+            (
+                name1(&records, &[[1, 0]; 2], &[0; 9]),
+                16 + 12 * records.len(),
+            ),
+        ] {
+            for (number, record) in records.iter().enumerate() {
+                let [p, e, l, n, length, offset] = *record;
+                let expected = at(start + usize::from(offset), usize::from(length), number);
+                assert_eq!(lookup(&table, (p, e, l, n)), expected);
+                // The keys beside it.
+                assert_eq!(lookup(&table, (p, e, l, n + 1)), no(20));
+                assert_eq!(lookup(&table, (p, e, l + 1, n)), no(20));
+                assert_eq!(lookup(&table, (p, e + 1, l, n)), no(20));
+                assert_eq!(lookup(&table, (p + 1, e, l, n)), no(20));
+            }
+        }
+    }
+}
+
+#[test]
+fn the_first_and_the_last_of_the_most_records() {
+    let records: Vec<Entry> = (0..5460).map(|n| [3, 1, 1033, n, 1, n % 10]).collect();
+    for (table, start) in [
+        (name0(&records, &[0; 10]), 65_526),
+        (name1(&records, &[], &[0; 10]), 65_528),
+    ] {
+        for number in [
+            0, 1, 9, 10, 255, 256, 257, 2_729, 2_730, 4_095, 4_096, 5_459,
+        ] {
+            let key = (3, 1, 1033, number as u16);
+            assert_eq!(lookup(&table, key), at(start + number % 10, 1, number));
+        }
+        assert_eq!(lookup(&table, (3, 1, 1033, 5460)), no(20));
+    }
+}
+
+/// Records with one string are told apart by their keys.
+#[test]
+fn two_records_with_the_same_string() {
+    let table = name0(
+        &[
+            [1, 0, 0, 1, 2, 0],
+            [1, 0, 0, 4, 2, 0],
+            [1, 0, 0, 6, 2, 1],
+            [1, 0, 0, 16, 2, 0],
+        ],
+        b"Ababa",
+    );
+    assert_eq!(lookup(&table, (1, 0, 0, 1)), at(54, 2, 0));
+    assert_eq!(lookup(&table, (1, 0, 0, 4)), at(54, 2, 1));
+    assert_eq!(lookup(&table, (1, 0, 0, 6)), at(55, 2, 2));
+    assert_eq!(lookup(&table, (1, 0, 0, 16)), at(54, 2, 3));
+}
+
+/// Neighbours whose keys differ in one part alone.
+#[test]
+fn a_neighbour_that_differs_in_one_part() {
+    for part in 0..4 {
+        let mut keys = [[5; 4], [6; 4], [7; 4]];
+        keys[0] = keys[1];
+        keys[2] = keys[1];
+        keys[0][part] = 5;
+        keys[2][part] = 7;
+        let table = keyed(&keys);
+        for (number, [p, e, l, n]) in keys.into_iter().enumerate() {
+            assert_eq!(lookup(&table, (p, e, l, n)), at(42, 0, number));
+        }
+    }
+}
+
+/// Every choice of the four records that the PostScript and the version question
+/// use, with others before, between and behind them, in both formats.
+#[test]
+fn postscript_and_version_tell_their_records() {
+    let known: [Named; 9] = [
+        (V1, b"1.2"),
+        (PS1, b"Ab"),
+        (V3, b"\x003\0.\x004"),
+        (PS3, b"\0A\0b"),
+        // The others.
+        ((0, 3, 0, 5), b"5.6"),
+        ((1, 0, 0, 4), b"7.8"),
+        ((1, 0, 1, 6), b"Ab"),
+        ((3, 1, 0x408, 5), b"\x009\0.\x009"),
+        ((3, 1, 0x409, 7), b"\0A\0b"),
+    ];
+    for choice in 0..512_usize {
+        let mut strings: Vec<Named> = (0..known.len())
+            .filter(|bit| choice >> bit & 1 == 1)
+            .map(|bit| known[bit])
+            .collect();
+        strings.sort();
+        let number = |key| strings.iter().position(|(other, _)| *other == key);
+        let postscript = match (number(PS1), number(PS3)) {
+            (None, None) => no(21),
+            (Some(first), Some(_)) => Ok(first),
+            _ => no(22),
+        };
+        let version = match (number(V3), number(V1)) {
+            (Some(record), _) => found_in(3, 4, record),
+            (None, Some(record)) => found_in(1, 2, record),
+            (None, None) => no(20),
+        };
+        let format_0 = named(&strings);
+        // The same with an empty list of tags behind the records.
+        let mut format_1 = format_0.clone();
+        let front = 6 + 12 * strings.len();
+        format_1.splice(front..front, [0, 0]);
+        format_1[1] = 1;
+        put(&mut format_1, 4, front as u16 + 2);
+        for table in [format_0, format_1] {
+            assert_eq!(name::version(&table), version);
+            let answer = name::postscript(&table);
+            assert_eq!(answer.map(|text| text.record), postscript);
+            // It is the lookup's answer.
+            if answer.is_ok() {
+                assert_eq!(answer, lookup(&table, PS1));
+            }
+        }
+    }
+}
+
+/// The same behind many other records, so that the numbers need two bytes.
+#[test]
+fn postscript_and_version_behind_many_records() {
+    let (number, second) = (wide("3.4"), wide("Ab"));
+    for before in (250..260).chain([4_095, 4_096, 5_456]) {
+        let others: Vec<Named> = (0..before).map(|n| ((0, 3, 0, n), &b""[..])).collect();
+        let names: [Named; 2] = [(PS1, b"Ab"), (PS3, &second)];
+        let versions: [Named; 2] = [(V1, b"1.2"), (V3, &number)];
+        let before = usize::from(before);
+        for (used, version) in [
+            (&versions[..], found_in(3, 4, before + 2)),
+            (&versions[..1], found_in(1, 2, before)),
+            (&versions[1..], found_in(3, 4, before + 1)),
+        ] {
+            let mut strings = [&others[..], used, &names].concat();
+            strings.sort();
+            let table = named(&strings);
+            assert_eq!(name::version(&table), version);
+            let record = before + usize::from(used[0].0 == V1);
+            let postscript = name::postscript(&table);
+            assert_eq!(postscript.map(|text| text.record), Ok(record));
+        }
+    }
+}
+
+/// A refusal carries what document 01's table says, and no record's number.
+#[test]
+fn a_refusal_tells_no_record() {
+    let before: Named = ((0, 3, 0, 1), b"x");
+    let one = |string: Named| named(&[before, string]);
+    let two = |first: Named, second: Named| named(&[before, first, second]);
+    for (table, number) in [
+        (named(&[before]), 21),
+        (one((PS1, b"Ab")), 22),
+        (one((PS3, b"\0A")), 22),
+        (two((PS1, b"A b"), (PS3, b"\0A")), 23),
+        (two((PS1, b"A"), (PS3, b"\0B")), 24),
+    ] {
+        assert_eq!(name::postscript(&table), no(number));
+    }
+    for (table, number) in [
+        (named(&[before]), 20),
+        (one((V1, b"none")), 25),
+        (one((V3, b"\x001\0.")), 25),
+        (two((V1, b"1.2"), (V3, b"\x001\0.")), 25),
+    ] {
+        assert_eq!(name::version(&table), no(number));
+    }
+    assert_eq!(lookup(&one((PS1, b"Ab")), (1, 0, 0, 5)), no(20));
 }
 
 // ---- the PostScript question ----
 
 /// The PostScript answer for two strings; the first starts at 30.
-fn postscript(first: &[u8], second: &[u8]) -> Result<Span, Refusal> {
+fn postscript(first: &[u8], second: &[u8]) -> Result<Text, Refusal> {
     name::postscript(&named(&[(PS1, first), (PS3, second)]))
 }
 
-fn first_string(length: usize) -> Result<Span, Refusal> {
-    Ok(Span { start: 30, length })
+fn first_string(length: usize) -> Result<Text, Refusal> {
+    at(30, length, 0)
 }
 
 #[test]
@@ -860,20 +1055,26 @@ fn postscript_24_compares_characters() {
 fn postscript_strings_may_share_storage() {
     // "A" within 00 41.
     let table = name0(&[[1, 0, 0, 6, 1, 1], [3, 1, 0x409, 6, 2, 0]], &[0, b'A']);
-    let at = Ok(Span {
-        start: 31,
-        length: 1,
-    });
-    assert_eq!(name::postscript(&table), at);
+    assert_eq!(name::postscript(&table), at(31, 1, 0));
 }
 
 // ---- the version question ----
 
+/// A number out of record 0.
 fn found(major: u32, minor: u32) -> Result<Version, Refusal> {
-    Ok(Version { major, minor })
+    found_in(major, minor, 0)
 }
 
-/// The answer for a text, asked in both widths, which must agree.
+fn found_in(major: u32, minor: u32, record: usize) -> Result<Version, Refusal> {
+    Ok(Version {
+        major,
+        minor,
+        record,
+    })
+}
+
+/// The answer for a text, asked in both widths, which must agree. The text is
+/// that of record 0.
 fn version(text: &str) -> Result<Version, Refusal> {
     let one = name::version(&named(&[(V1, text.as_bytes())]));
     let two = name::version(&named(&[(V3, &wide(text))]));
@@ -953,7 +1154,7 @@ fn version_which_string_counts() {
     let two = wide("3.4");
     assert_eq!(
         name::version(&named(&[(V1, b"1.2"), (V3, &two)])),
-        found(3, 4)
+        found_in(3, 4, 1)
     );
     assert_eq!(name::version(&named(&[(V1, b"1.2")])), found(1, 2));
     assert_eq!(name::version(&named(&[(V3, &two)])), found(3, 4));

@@ -199,6 +199,48 @@ fn wrong_comparisons() {
     }
 }
 
+/// The lines of `rows` for strings and version numbers that are found, with the
+/// record's number, and for bare version texts, which have none.
+#[test]
+fn rows_tell_the_record() {
+    let rows = |arguments: &[&str], input: &str| {
+        let mut child = Command::new(env!("CARGO_BIN_EXE_rows"))
+            .args(arguments)
+            .stdin(Stdio::piped())
+            .stdout(Stdio::piped())
+            .spawn()
+            .unwrap();
+        let mut stdin = child.stdin.take().unwrap();
+        stdin.write_all(input.as_bytes()).unwrap();
+        drop(stdin);
+        let output = child.wait_with_output().unwrap();
+        assert_eq!(output.status.code(), Some(0));
+        String::from_utf8(output.stdout).unwrap()
+    };
+    // (0, 3, 0, 6), (1, 0, 0, 5), (1, 0, 0, 6) and (3, 1, 1033, 6).
+    let table = "= name 0000 0004 0036 0000 0003 0000 0006 0002 0000 \
+                 0001 0000 0000 0005 0003 0002 0001 0000 0000 0006 0001 0005 \
+                 0003 0001 0409 0006 0002 0006 4363 312e 3241 0041";
+    let asked = "postscript\nversion\nlookup 0 3 0 6\nlookup 3 1 1033 6\nlookup 0 3 0 5\n";
+    assert_eq!(
+        rows(&[], &format!("# words\n{table}\n{asked}")),
+        "# words\n\
+         postscript: start 59 length 1 record 2\n\
+         version: 1 2 record 1\n\
+         lookup 0 3 0 6: start 54 length 2 record 0\n\
+         lookup 3 1 1033 6: start 60 length 2 record 3\n\
+         lookup 0 3 0 5: refused 20\n"
+    );
+    assert_eq!(
+        rows(&[], "= name largest\nlookup 3 1 1033 5459\nversion\n"),
+        "lookup 3 1 1033 5459: start 65535 length 1 record 5459\nversion: refused 25\n"
+    );
+    assert_eq!(
+        rows(&["versions"], "v 2.5\n"),
+        "`v 2.5` version 2 5\n65,535 sevens version refused 25\n"
+    );
+}
+
 /// The last lines of `writer_rows`: versions 2 and 3 with each setting of
 /// fsType bits 1 to 3, then version 2 with all three, there and back.
 #[test]

@@ -134,8 +134,8 @@ version-said t = version-back (faults t) _ (faults-numbered t) (at (recordWith t
   where
     at : (p q : Option ℕ) → versionSaid (versionWords (fromRecords t p q)) ≡ fromRecords t p q
     at none none = refl
-    at (some i) q = number-back true (bytesOf t i)
-    at none (some j) = number-back false (bytesOf t j)
+    at (some i) q = number-back i true (bytesOf t i)
+    at none (some j) = number-back j false (bytesOf t j)
 
 -- ---- 'OS/2' questions
 

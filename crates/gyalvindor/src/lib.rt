@@ -1,5 +1,5 @@
 // The reader, the comparison and the writer for C and Rust: the functions of the static library, each answering in plain numbers.
-// Document 01, whole, and document 02, Asks 1 to 3; `include/gyalvindor.h` says the same to a C programmer.
+// Document 01, whole, and document 02, Asks 1 to 4; `include/gyalvindor.h` says the same to a C programmer.
 // Relies on `name`, `name_lookup` and `name_strings`, on `os2` and `os2_writer`, on `name_compare` and `os2_compare`, which answer, and on `name_words`,
 // `os2_words` and `compare_words`, which put an answer into words of C.
 ghost use mathlib.Core.Path.{_≡_};
@@ -52,7 +52,7 @@ pub extern "C" fn gv_name_check(table: &[u8]) -> GvRefusal
     verdict_words(name::check(table))
 }
 
-// The string of the record of a 'name' table with these four numbers.
+// The string of the record of a 'name' table with these four numbers, and the record's number.
 #[no_mangle]
 pub extern "C" fn gv_name_lookup(
     table: &[u8],
@@ -66,7 +66,7 @@ pub extern "C" fn gv_name_lookup(
     found_words(name_lookup::lookup(table, platform, encoding, language, name))
 }
 
-// The PostScript name of a 'name' table.
+// The PostScript name of a 'name' table, and the number of the platform 1 record that has it.
 #[no_mangle]
 pub extern "C" fn gv_name_postscript(table: &[u8]) -> GvText
     ensures { λ r. ⌜ r ≡ textWords (postscriptOf (now (table .entry))) ⌝ }
@@ -74,7 +74,7 @@ pub extern "C" fn gv_name_postscript(table: &[u8]) -> GvText
     named_words(name_strings::postscript(table))
 }
 
-// The version number of a 'name' table.
+// The version number of a 'name' table, and the number of the record whose string it stands in.
 #[no_mangle]
 pub extern "C" fn gv_name_version(table: &[u8]) -> GvVersion
     ensures { λ r. ⌜ r ≡ versionWords (versionOf (now (table .entry))) ⌝ }

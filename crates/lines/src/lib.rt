@@ -102,7 +102,7 @@ pub fn numbered_line(text: &[u8], n: u64) -> Line
 }
 
 // A line of a short text, a number, a short text and a number.
-pub fn two_numbered_line(text: &[u8], n: u64, other: &[u8], m: u64) -> Line
+fn two_numbered_line(text: &[u8], n: u64, other: &[u8], m: u64) -> Line
     requires { ⌜ (length (now text) ≤ labelRoom) × (length (now other) ≤ labelRoom) ⌝ }
     ensures { λ r. ⌜ lineOf r ≡ now (text .entry) ++ decimal n ++ (now (other .entry) ++ decimal m) ++ codes "\n" ⌝ }
 {

@@ -1,7 +1,7 @@
 -- The definition of the PostScript question gives what document 01's propositions say: each way to an outcome is one of them, and leads back to it.
 -- Assumes nothing.
 use Prim.Native.Nat.{ℕ}
-use mathlib.Core.Path.{_≡_, refl, sym, _∙_, ap}
+use mathlib.Core.Path.{_≡_, refl, sym, _∙_, ap, subst}
 use mathlib.Core.Bool.{Bool, true, false}
 use mathlib.Core.Option.{Option, none, some}
 use mathlib.Core.List.{List}
@@ -22,7 +22,7 @@ use Rattle.name.proofs.Theorems.{acceptable}
 use Rattle.name.proofs.Refusings.{refused-exactly}
 use Rattle.name_search.specs.declared.Text.{Text}
 use Rattle.name_search.specs.Searches.{recordWith, textOf}
-use Rattle.name_search.proofs.Finds.{find-has, find-at, find-none}
+use Rattle.name_search.proofs.Finds.{find-has, find-at, find-none, text-is, has-bytes}
 use Rattle.name_answers.specs.Names.{eitherIll, unlike, fromStrings, fromBoth, postscriptOf}
 use Rattle.name_answers.specs.ExactNames.{First, Second, WithBoth, Formed, Same, Named, Neither, ExactlyOne, NotFormed, Unlike, PostscriptRight, GivesItsBytes}
 use Rattle.name_answers.proofs.FormLaws.{both-formed, either-23, same-characters, differ-24}
@@ -41,22 +41,9 @@ module _ (t : List ℕ) where
   unfolding postscriptOf
   name-refused a = passed-on _ a
 
-  module _ (a : faults t ≡ none) where
-    pub name-both : {i j : ℕ} → first t ≡ some i → second t ≡ some j → postscriptOf t ≡ fromStrings (textOf t i) (bytesOf t i) (bytesOf t j)
-    unfolding postscriptOf fromBoth
-    name-both d e = not-refused _ a ∙ simp (d, e)
-
-    pub name-first : {i : ℕ} → first t ≡ some i → second t ≡ none → postscriptOf t ≡ refused 22 none
-    unfolding postscriptOf fromBoth
-    name-first d e = not-refused _ a ∙ simp (d, e)
-
-    pub name-second : {j : ℕ} → first t ≡ none → second t ≡ some j → postscriptOf t ≡ refused 22 none
-    unfolding postscriptOf fromBoth
-    name-second d e = not-refused _ a ∙ simp (d, e)
-
-    pub name-neither : first t ≡ none → second t ≡ none → postscriptOf t ≡ refused 21 none
-    unfolding postscriptOf fromBoth
-    name-neither d e = not-refused _ a ∙ simp (d, e)
+  pub name-from : faults t ≡ none → {p q : Option ℕ} → first t ≡ p → second t ≡ q → postscriptOf t ≡ fromBoth t p q
+  unfolding postscriptOf
+  name-from a d e = not-refused _ a ∙ λ k. fromBoth t (d k) (e k)
 
 module _ (name : Text) (x y : List ℕ) where
   pub strings-ill : (eitherIll x y ≡ none → ⊥) → fromStrings name x y ≡ refused 23 none
@@ -97,6 +84,7 @@ is-some e f = let z : _≡_ {A = ℕ} 0 1 = cc in omega arith
 module _ (t : List ℕ) (b : Bytes t) where
   -- the outcome is one of them
   way : Way t (postscriptOf t)
+  unfolding fromBoth
   way = checked (faults t) refl
     where
       strings : (i j : ℕ) → Acceptable t → First t i → Second t j → (p q : Option Refusal)
@@ -110,14 +98,14 @@ module _ (t : List ℕ) (b : Bytes t) where
           (different (record { accepted = a; i = i; j = j; first = f; second = s; holds = (formed t i j .0 d, λ x. is-some e (same t i j .1 x)) }))
       strings i j a f s none none d e =
           rw (strings-alike _ _ _ d e)
-          (name (record { accepted = a; i = i; j = j; first = f; second = s; holds = (formed t i j .0 d, same t i j .0 e, refl) }))
+          (name (record { accepted = a; i = i; j = j; first = f; second = s; holds = (formed t i j .0 d, same t i j .0 e, text-is t i _ .0 refl) }))
 
       records : faults t ≡ none → (p q : Option ℕ) → first t ≡ p → second t ≡ q → Way t (postscriptOf t)
-      records a none none d e = rw (name-neither t a d e) (none-there (acceptable t .0 a, find-none t _ .0 d, find-none t _ .0 e))
-      records a (some i) none d e = rw (name-first t a d e) (one-there (acceptable t .0 a, inl ((i, find-has t _ d), find-none t _ .0 e)))
-      records a none (some j) d e = rw (name-second t a d e) (one-there (acceptable t .0 a, inr (find-none t _ .0 d, (j, find-has t _ e))))
+      records a none none d e = rw (name-from t a d e) (none-there (acceptable t .0 a, find-none t _ .0 d, find-none t _ .0 e))
+      records a (some i) none d e = rw (name-from t a d e) (one-there (acceptable t .0 a, inl ((i, find-has t _ d), find-none t _ .0 e)))
+      records a none (some j) d e = rw (name-from t a d e) (one-there (acceptable t .0 a, inr (find-none t _ .0 d, (j, find-has t _ e))))
       records a (some i) (some j) d e =
-          rw (name-both t a d e) (strings i j (acceptable t .0 a) (find-has t _ d) (find-has t _ e) _ _ refl refl)
+          rw (name-from t a d e) (strings i j (acceptable t .0 a) (find-has t _ d) (find-has t _ e) _ _ refl refl)
 
       checked : (o : Option Refusal) → faults t ≡ o → Way t (postscriptOf t)
       checked (some r) a = rw (name-refused t a) (refusal a)
@@ -125,21 +113,23 @@ module _ (t : List ℕ) (b : Bytes t) where
 
   -- and each leads back to it
   both : {P : ℕ → ℕ → Type 0} (w : WithBoth t P) → postscriptOf t ≡ fromStrings (textOf t (w .i)) (bytesOf t (w .i)) (bytesOf t (w .j))
+  unfolding fromBoth
   both w =
       let a = acceptable t .1 (w .accepted) in
-      name-both t a (find-at t _ b a (w .first)) (find-at t _ b a (w .second))
+      name-from t a (find-at t _ b a (w .first)) (find-at t _ b a (w .second))
 
   settled : {o : Outcome Text} → Way t o → postscriptOf t ≡ o
+  unfolding fromBoth
   settled (refusal a) = name-refused t a
   settled (name w) =
       let h = w .holds in
-      both w ∙ strings-alike _ _ _ (formed t _ _ .1 (h .0)) (same t _ _ .1 (h .1)) ∙ ap answered (sym (h .2))
-  settled (none-there (x, f, s)) = name-neither t (acceptable t .1 x) (find-none t _ .1 f) (find-none t _ .1 s)
+      both w ∙ strings-alike _ _ _ (formed t _ _ .1 (h .0)) (same t _ _ .1 (h .1)) ∙ ap answered (sym (text-is t _ _ .1 (h .2)))
+  settled (none-there (x, f, s)) = name-from t (acceptable t .1 x) (find-none t _ .1 f) (find-none t _ .1 s)
   settled (one-there (x, y)) =
       let a = acceptable t .1 x in
       ⊎-elim
-      (λ z. name-first t a (find-at t _ b a (z .0 .1)) (find-none t _ .1 (z .1)))
-      (λ z. name-second t a (find-none t _ .1 (z .0)) (find-at t _ b a (z .1 .1)))
+      (λ z. name-from t a (find-at t _ b a (z .0 .1)) (find-none t _ .1 (z .1)))
+      (λ z. name-from t a (find-none t _ .1 (z .0)) (find-at t _ b a (z .1 .1)))
       y
   settled (ill-formed w) = both w ∙ strings-ill _ _ _ (λ e. w .holds (formed t _ _ .0 e))
   settled (different w) = both w ∙ strings-unlike _ _ _ (formed t _ _ .1 (w .holds .0)) (λ e. w .holds .1 (same t _ _ .0 e))
@@ -189,7 +179,7 @@ postscript-only read right t b = by (way t b)
     by (different w) = right .unlike t b .1 w
 
 pub name-bytes : GivesItsBytes postscriptOf
-unfolding textOf bytesOf
 name-bytes t b x h =
     let w = postscript-right .named t b x .0 h in
-    rw (w .holds .2) (omega arith, w .accepted .strings (w .i) (w .first .inside), (w .i, w .first, refl))
+    let s = w .holds .2 in
+    (subst (First t) (sym (s .number)) (w .first), has-bytes t _ (text-is t _ x .1 s) (w .accepted) (w .first .inside))

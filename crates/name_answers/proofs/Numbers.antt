@@ -59,5 +59,5 @@ version-numbers = refl
 pub version-carries : map (λ r. saidVersionRefusal r .carried) versions ≡ none ∷ none ∷ []
 version-carries = refl
 
-pub version-said : (a b : ℕ) → saidVersion (Number a b) ≡ answered (record { major = a; minor = b })
-version-said a b = refl
+pub version-said : (a b i : ℕ) → saidVersion (Number a b i) ≡ answered (record { major = a; minor = b; «record» = i })
+version-said a b i = refl

@@ -1,20 +1,19 @@
 -- Of any reader of a table: what the PostScript question answers, and exactly when, in plain propositions on the bytes.
-use Prim.Native.Nat.{ℕ, _+_, _≤_}
+use Prim.Native.Nat.{ℕ}
 use mathlib.Core.Path.{_≡_}
 use mathlib.Core.Bool.{true, false}
 use mathlib.Core.Option.{none}
 use mathlib.Core.List.{List}
 use mathlib.Core.Logic.{_↔_, _⊎_}
-use lib.ListN.{length, take, drop}
 use Rattle.bigendian.specs.Numbers.{Bytes}
 use Rattle.characters.specs.Strings.{characters}
 use Rattle.outcomes.specs.Outcomes.{Refusal, Outcome, refused, answered, refusing}
-use Rattle.name_layout.specs.Layout.{storage, bytesOf}
+use Rattle.name_layout.specs.Layout.{bytesOf}
 use Rattle.name_layout.specs.Keys.{keyFrom}
 use Rattle.name.specs.Refusing.{Refused}
 use Rattle.name.specs.Acceptable.{Acceptable}
 use Rattle.name_search.specs.declared.Text.{Text}
-use Rattle.name_search.specs.Searches.{HasKey, textOf}
+use Rattle.name_search.specs.Searches.{HasKey, StringOf, HasBytes}
 use Rattle.name_answers.specs.WellFormed.{WellFormed}
 
 -- the two records that count
@@ -48,9 +47,10 @@ Formed t i j = WellFormed false (bytesOf t i) × WellFormed true (bytesOf t j)
 abbrev pub Same : List ℕ → ℕ → ℕ → Type 0
 Same t i j = characters false (bytesOf t i) ≡ characters true (bytesOf t j)
 
--- "The answer is the first string's start and length"
+-- "The answer is the first string's start and length"; document 02, Ask 4: with "the number of the record that they used (for a PostScript name, the
+-- platform 1 record)"
 abbrev pub Named : List ℕ → Text → Type 0
-Named t x = WithBoth t (λ i j. Formed t i j × Same t i j × (x ≡ textOf t i))
+Named t x = WithBoth t (λ i j. Formed t i j × Same t i j × StringOf t i x)
 
 -- 21: "neither PostScript record present"
 abbrev pub Neither : List ℕ → Type 0
@@ -77,8 +77,8 @@ pub record PostscriptRight (read : List ℕ → Outcome Text) : Type 0 where
   pub notFormed : (t : List ℕ) → Bytes t → (read t ≡ refused 23 none) ↔ NotFormed t
   pub unlike : (t : List ℕ) → Bytes t → (read t ≡ refused 24 none) ↔ Unlike t
 
--- a name's bytes: from the start on, as many as the length, they lie within storage and are the string of the platform 1 record
+-- a name's bytes: the record of its number is the platform 1 record, and its bytes are that record's
 abbrev pub GivesItsBytes : (List ℕ → Outcome Text) → Type 0
 GivesItsBytes read =
     (t : List ℕ) → Bytes t → (x : Text) → read t ≡ answered x →
-    (storage t ≤ x .start) × (x .start + x .len ≤ length t) × ((i : ℕ) × First t i × (take (x .len) (drop (x .start) t) ≡ bytesOf t i))
+    First t (x .«record») × HasBytes t x

@@ -13,9 +13,9 @@ use Rattle.name_layout.specs.Keys.{keyFrom}
 use Rattle.name.specs.Refusing.{Refused}
 use Rattle.name.specs.Acceptable.{Acceptable}
 use Rattle.name_search.specs.Searches.{HasKey}
-use Rattle.version_text.specs.Versions.{Figures}
 use Rattle.version_text.specs.Qualifying.{Odd, First, Qualifies}
-use Rattle.name_answers.specs.ExactNames.{None}
+use Rattle.name_answers.specs.Versions.{Reading}
+use Rattle.name_answers.specs.ExactNames.{Some, None}
 
 -- the two records that count
 abbrev pub Wide : List ℕ → ℕ → Type 0
@@ -29,17 +29,16 @@ abbrev pub Chosen : List ℕ → Bool → ℕ → Type 0
 Chosen t true i = Wide t i
 Chosen t false i = None (Wide t) × Narrow t i
 
--- the table is accepted, a record is read, and so much holds of its string
-pub record WithString (t : List ℕ) (P : Bool → List ℕ → Type 0) : Type 0 where
+-- the table is accepted, record i is read, and so much holds of its string
+pub record WithString (t : List ℕ) (i : ℕ) (P : Bool → List ℕ → Type 0) : Type 0 where
   pub accepted : Acceptable t
   pub wide : Bool
-  pub i : ℕ
   pub chosen : Chosen t wide i
   pub holds : P wide (bytesOf t i)
 
--- the number a and b stands at the first start that qualifies, and the length of a two-byte string isn't odd
-abbrev pub HasNumber : List ℕ → ℕ → ℕ → Type 0
-HasNumber t a b = WithString t (λ wide bytes. (Odd wide bytes → ⊥) × First (characters wide bytes) a b)
+-- in record i's string the number a and b stands at the first start that qualifies, and the length of a two-byte string isn't odd
+abbrev pub HasNumber : List ℕ → ℕ → ℕ → ℕ → Type 0
+HasNumber t a b i = WithString t i (λ wide bytes. (Odd wide bytes → ⊥) × First (characters wide bytes) a b)
 
 -- 20: neither key
 abbrev pub NoVersion : List ℕ → Type 0
@@ -47,11 +46,11 @@ NoVersion t = Acceptable t × None (Wide t) × None (Narrow t)
 
 -- 25: "no version number in the string", or a two-byte string of odd length
 abbrev pub LacksNumber : List ℕ → Type 0
-LacksNumber t = WithString t (λ wide bytes. Odd wide bytes ⊎ ((i a b : ℕ) → Qualifies (characters wide bytes) i a b → ⊥))
+LacksNumber t = Some (λ i. WithString t i (λ wide bytes. Odd wide bytes ⊎ ((j a b : ℕ) → Qualifies (characters wide bytes) j a b → ⊥)))
 
--- a reader answers a number and each refusal exactly when document 01 does
-pub record VersionRight (read : List ℕ → Outcome Figures) : Type 0 where
+-- a reader answers a number, with the number of the record that it used, and each refusal exactly when document 01 does
+pub record VersionRight (read : List ℕ → Outcome Reading) : Type 0 where
   pub passesOn : (t : List ℕ) (r : Refusal) → Refused t r → read t ≡ refusing r
-  pub number : (t : List ℕ) → Bytes t → (a b : ℕ) → (read t ≡ answered (record { major = a; minor = b })) ↔ HasNumber t a b
+  pub number : (t : List ℕ) → Bytes t → (a b i : ℕ) → (read t ≡ answered (record { major = a; minor = b; «record» = i })) ↔ HasNumber t a b i
   pub neither : (t : List ℕ) → Bytes t → (read t ≡ refused 20 none) ↔ NoVersion t
   pub lacks : (t : List ℕ) → Bytes t → (read t ≡ refused 25 none) ↔ LacksNumber t

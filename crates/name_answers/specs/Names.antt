@@ -27,7 +27,7 @@ eitherIll first second = illFormed false first then illFormed true second
 abbrev pub unlike : List ℕ → List ℕ → Option outcomes.Refusal
 unlike first second = differ (characters false first) (characters true second)
 
--- "Both must be well formed before they are compared"; else the first record's string
+-- "Both must be well formed before they are compared"; else the first record's string, with that record's number
 unfoldable pub fromStrings : Text → List ℕ → List ℕ → Outcome Text
 fromStrings name first second = unless (eitherIll first second then unlike first second) (answered name)
 

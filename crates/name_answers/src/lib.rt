@@ -1,5 +1,5 @@
 // Two questions on the strings of an accepted 'name' table: its PostScript name and its version number.
-// Document 01, "PostScript name and version number", and refusals 20 to 25.
+// Document 01, "PostScript name and version number", and refusals 20 to 25; document 02, Ask 4: both answers "carry the number of the record that they used".
 // It relies on the table's check, on the search in an accepted table, and on the character and version tests of a string.
 ghost use mathlib.Core.Path.{_≡_};
 ghost use mathlib.Core.Bool.{true, false, not};
@@ -15,7 +15,7 @@ ghost use Rattle.charset.specs.Allowed.{allowed};
 ghost use Rattle.version_text.specs.Versions.{versionIn};
 ghost use Rattle.name_answers.specs.Forms.{wrongCount, illFormed, differ};
 ghost use Rattle.name_answers.specs.Names.{fromStrings, postscriptOf, saidNameRefusal, saidName};
-ghost use Rattle.name_answers.specs.Versions.{versionOf, saidVersionRefusal, saidVersion};
+ghost use Rattle.name_answers.specs.Versions.{readFrom, versionOf, saidVersionRefusal, saidVersion};
 ghost use Rattle.name_answers.specs.Steps.{Present};
 use name::Refusal;
 use name_search::Found;
@@ -40,7 +40,7 @@ pub enum PostscriptRefusal {
 
 // What the PostScript question answers.
 pub enum PostscriptAnswer {
-    // The string of the platform 1 record.
+    // The string of the platform 1 record, with that record's number.
     Name(Text),
     Refused(PostscriptRefusal),
 }
@@ -57,8 +57,12 @@ pub enum VersionRefusal {
 
 // What the version question answers.
 pub enum VersionAnswer {
-    // The figures before and after the period.
-    Number { major: u16, minor: u16 },
+    // The figures before and after the period, and the number of the record whose string they stand in.
+    Number {
+        major: u16,
+        minor: u16,
+        record: usize,
+    },
     Refused(VersionRefusal),
 }
 
@@ -229,16 +233,20 @@ fn differ(first: &[u8], second: &[u8]) -> bool
     false
 }
 
-// The version number in record i's string, one byte a character or two.
+// The version number in record i's string, one byte a character or two, with the record's number.
 fn version_at(table: &[u8], i: usize, wide: bool) -> VersionAnswer
     requires { ⌜ (faults (now table) ≡ none) × (i < count (now table)) ⌝ }
-    ensures { λ r. ⌜ saidVersion r ≡ versionIn wide (bytesOf (now (table .entry)) i) ⌝ }
+    ensures { λ r. ⌜ saidVersion r ≡ readFrom i (versionIn wide (bytesOf (now (table .entry)) i)) ⌝ }
 {
     let text = name_search::text_of(table, i);
     let start = text.start;
     let end = start + text.len;
     match version_text::version_of(&table[start..end], wide) {
-        Version::Number { major, minor } => VersionAnswer::Number { major, minor },
+        Version::Number { major, minor } => VersionAnswer::Number {
+            major,
+            minor,
+            record: i,
+        },
         Version::NoNumber => VersionAnswer::Refused(VersionRefusal::NoNumber),
     }
 }

@@ -1,9 +1,13 @@
--- Document 01, end of "Examples to check against": the lines of a 'name' table's listing, each as its bytes.
+-- Document 01, end of "Examples to check against", and document 02, Ask 4: the lines of a 'name' table's listing, each as its bytes.
 use Prim.Native.Nat.{ℕ, _+_, _*_}
 use mathlib.Core.List.{List, _++_}
 use Rattle.characters.specs.Texts.{codes}
 use Rattle.lines.specs.Numerals.{mostDigits, decimal}
 use Rattle.lines.specs.Lines.{numbered}
+
+-- the most bytes of a text before a number, so that a line holds three of them, each with its number
+abbrev pub shortRoom : ℕ
+shortRoom = 33
 
 -- "the first line ends with the storage's length"
 unfoldable pub headLine : ℕ → ℕ → ℕ → List ℕ
@@ -23,17 +27,21 @@ unfoldable pub recordLine : ℕ → ℕ → ℕ → ℕ → ℕ → ℕ → ℕ 
 recordLine i platform encoding language name offset len =
     decimal i ++ keyParts platform encoding language name ++ numbered " " offset ++ numbered " " len ++ codes "\n"
 
+-- "The listing adds ` record ` and that number after the name or version"
+abbrev pub ofRecord : ℕ → List ℕ
+ofRecord i = numbered " record " i
+
 -- the PostScript name's own characters
-unfoldable pub postscriptLine : List ℕ → List ℕ
-postscriptLine name = codes "postscript " ++ name ++ codes "\n"
+unfoldable pub postscriptLine : List ℕ → ℕ → List ℕ
+postscriptLine name i = codes "postscript " ++ name ++ ofRecord i ++ codes "\n"
 
 -- "a PostScript refusal `postscript refused 21`"
 abbrev pub postscriptRefused : ℕ → List ℕ
 postscriptRefused number = numbered "postscript refused " number ++ codes "\n"
 
 -- "A version found reads `version 2 5`"
-abbrev pub versionLine : ℕ → ℕ → List ℕ
-versionLine major minor = numbered "version " major ++ numbered " " minor ++ codes "\n"
+unfoldable pub versionLine : ℕ → ℕ → ℕ → List ℕ
+versionLine major minor i = numbered "version " major ++ numbered " " minor ++ ofRecord i ++ codes "\n"
 
 -- a version's refusal reads alike
 abbrev pub versionRefused : ℕ → List ℕ

@@ -7,9 +7,8 @@ use Rattle.lines.specs.Lines.{refusedLine, listed}
 use Rattle.name_layout.specs.Layout.{format, count, storage, platform, encoding, language, nameId, textAt, stringLength, stringOffset}
 use Rattle.name.specs.Acceptance.{checkOf}
 use Rattle.name_search.specs.declared.Text.{Text}
-use Rattle.version_text.specs.Versions.{Figures}
 use Rattle.name_answers.specs.Names.{postscriptOf}
-use Rattle.name_answers.specs.Versions.{versionOf}
+use Rattle.name_answers.specs.Versions.{Reading, versionOf}
 use Rattle.name_lines.specs.Lines.{headLine, recordLine, postscriptLine, postscriptRefused, versionLine, versionRefused}
 
 -- "the first line ends with the storage's length"
@@ -21,14 +20,14 @@ abbrev pub recordText : List ℕ → ℕ → List ℕ
 recordText t i =
     recordLine i (platform t i) (encoding t i) (language t i) (nameId t i) (stringOffset t (textAt i)) (stringLength t (textAt i))
 
--- the PostScript name's own characters, or its refusal
+-- the PostScript name's own characters with its record's number, or its refusal
 abbrev pub postscriptText : List ℕ → Outcome Text → List ℕ
-postscriptText t (answered x) = postscriptLine (take (x .len) (drop (x .start) t))
+postscriptText t (answered x) = postscriptLine (take (x .len) (drop (x .start) t)) (x .«record»)
 postscriptText t (refused n c) = postscriptRefused n
 
--- the version's two figures, or its refusal
-abbrev pub versionText : Outcome Figures → List ℕ
-versionText (answered f) = versionLine (f .major) (f .minor)
+-- the version's two figures with the number of the record used, or its refusal
+abbrev pub versionText : Outcome Reading → List ℕ
+versionText (answered v) = versionLine (v .major) (v .minor) (v .«record»)
 versionText (refused n c) = versionRefused n
 
 -- the lines of the records 0, 1, .., n - 1

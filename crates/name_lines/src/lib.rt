@@ -1,5 +1,5 @@
 // The lines of a 'name' table's listing, from the table: head, records, PostScript name and version.
-// Document 01, end of "Examples to check against".
+// Document 01, end of "Examples to check against", and document 02, Ask 4.
 // It relies on the table's layout and check, on the answers to its two questions, and on the pieces of lines of `lines`.
 ghost use Prim.Native.Nat.{_+_, _≤_};
 ghost use mathlib.Core.Path.{_≡_};
@@ -13,13 +13,13 @@ ghost use Rattle.name_answers.specs.Versions.{versionOf};
 ghost use Rattle.name_lines.specs.Listings.{headText, recordText, postscriptText, versionText};
 use lines::Line;
 use lines::numbered_line;
-use lines::two_numbered_line;
 use name_answers::PostscriptAnswer;
 use name_answers::VersionAnswer;
 
 mod plain;
 
 pub use plain::put_key;
+use plain::three_numbered_line;
 
 // The first line of an accepted table.
 pub fn head_line(table: &[u8]) -> Line
@@ -29,7 +29,15 @@ pub fn head_line(table: &[u8]) -> Line
     let format = name_layout::format_number(table) as u64;
     let records = name_layout::record_count(table) as u64;
     let start = name_layout::storage_start(table) as usize;
-    plain::head_line(format, records, (table.len() - start) as u64)
+    let storage = (table.len() - start) as u64;
+    three_numbered_line(
+        b"name format ",
+        format,
+        b" records ",
+        records,
+        b" storage ",
+        storage,
+    )
 }
 
 // The line of record i, which lies within the table.
@@ -58,7 +66,7 @@ pub fn postscript_line(table: &[u8]) -> Line
         PostscriptAnswer::Name(text) => {
             let start = text.start;
             let end = start + text.len;
-            plain::postscript_line(&table[start..end])
+            plain::postscript_line(&table[start..end], text.record as u64)
         }
         PostscriptAnswer::Refused(refusal) => {
             numbered_line(b"postscript refused ", refusal.told().number as u64)
@@ -72,9 +80,18 @@ pub fn version_line(table: &[u8]) -> Line
     ensures { λ r. ⌜ lineOf r ≡ versionText (versionOf (now (table .entry))) ⌝ }
 {
     match name_answers::accepted_version(table) {
-        VersionAnswer::Number { major, minor } => {
-            two_numbered_line(b"version ", major as u64, b" ", minor as u64)
-        }
+        VersionAnswer::Number {
+            major,
+            minor,
+            record,
+        } => three_numbered_line(
+            b"version ",
+            major as u64,
+            b" ",
+            minor as u64,
+            b" record ",
+            record as u64,
+        ),
         VersionAnswer::Refused(refusal) => {
             numbered_line(b"version refused ", refusal.told().number as u64)
         }

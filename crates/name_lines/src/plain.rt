@@ -1,24 +1,35 @@
 // The lines of a 'name' table's listing, each from plain numbers.
 ghost use Prim.Native.Nat.{_+_, _≤_};
 ghost use mathlib.Core.Path.{_≡_};
+ghost use mathlib.Core.List.{_++_};
 ghost use lib.ListN.{length};
+ghost use Rattle.characters.specs.Texts.{codes};
+ghost use Rattle.lines.specs.Numerals.{decimal};
 ghost use Rattle.lines.specs.Pieces.{Put};
 ghost use Rattle.lines.specs.Lines.{lineOf};
-ghost use Rattle.name_lines.specs.Lines.{headLine, keyRoom, keyParts, recordLine, postscriptLine};
+ghost use Rattle.name_lines.specs.Lines.{shortRoom, keyRoom, keyParts, recordLine, postscriptLine};
 use lines::LINE_ROOM;
 use lines::Line;
 use lines::put;
 use lines::put_numbered;
 
-// The first line of an accepted table's listing.
-pub fn head_line(format: u64, records: u64, storage: u64) -> Line
-    ensures { λ r. ⌜ lineOf r ≡ headLine format records storage ⌝ }
+// A line of three short texts, each with a number behind it.
+pub fn three_numbered_line(
+    first: &[u8],
+    i: u64,
+    second: &[u8],
+    j: u64,
+    third: &[u8],
+    k: u64,
+) -> Line
+    requires { ⌜ (length (now first) ≤ shortRoom) × (length (now second) ≤ shortRoom) × (length (now third) ≤ shortRoom) ⌝ }
+    ensures { λ r. ⌜ lineOf r ≡ now (first .entry) ++ decimal i ++ (now (second .entry) ++ decimal j) ++ (now (third .entry) ++ decimal k) ++ codes "\n" ⌝ }
 {
     let mut bytes = [0u8; LINE_ROOM];
-    let format_end = put_numbered(&mut bytes, 0, b"name format ", format);
-    let records_end = put_numbered(&mut bytes, format_end, b" records ", records);
-    let storage_end = put_numbered(&mut bytes, records_end, b" storage ", storage);
-    let len = put(&mut bytes, storage_end, b"\n");
+    let first_end = put_numbered(&mut bytes, 0, first, i);
+    let second_end = put_numbered(&mut bytes, first_end, second, j);
+    let third_end = put_numbered(&mut bytes, second_end, third, k);
+    let len = put(&mut bytes, third_end, b"\n");
     Line { bytes, len }
 }
 
@@ -61,14 +72,15 @@ pub fn put_key(
     put_numbered(out, language_end, b" ", name)
 }
 
-// The line of a PostScript name, given by its bytes.
-pub fn postscript_line(name: &[u8]) -> Line
+// The line of a PostScript name, given by its bytes, and of the number of its record.
+pub fn postscript_line(name: &[u8], i: u64) -> Line
     requires { ⌜ length (now name) ≤ 63 ⌝ }
-    ensures { λ r. ⌜ lineOf r ≡ postscriptLine (now (name .entry)) ⌝ }
+    ensures { λ r. ⌜ lineOf r ≡ postscriptLine (now (name .entry)) i ⌝ }
 {
     let mut bytes = [0u8; LINE_ROOM];
     let start = put(&mut bytes, 0, b"postscript ");
-    let end = put(&mut bytes, start, name);
-    let len = put(&mut bytes, end, b"\n");
+    let name_end = put(&mut bytes, start, name);
+    let record_end = put_numbered(&mut bytes, name_end, b" record ", i);
+    let len = put(&mut bytes, record_end, b"\n");
     Line { bytes, len }
 }

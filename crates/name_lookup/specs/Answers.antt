@@ -1,4 +1,4 @@
--- Document 01, "Lookup gives the string's start, from the table's first byte, and its length", and refusal 20.
+-- Document 01, "Lookup gives the string's start, from the table's first byte, and its length", and refusal 20; document 02, Ask 4: and "the record's number".
 use Prim.Native.Nat.{ℕ}
 use mathlib.Core.List.{List}
 use Rattle.outcomes.specs.Outcomes as outcomes

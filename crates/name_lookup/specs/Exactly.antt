@@ -1,24 +1,26 @@
--- "found by its four numbers exactly when a record has them", of any lookup by any four numbers, in plain propositions.
-use Prim.Native.Nat.{ℕ, _+_, _≤_}
+-- "found by its four numbers exactly when a record has them", and which record that is, of any lookup by any four numbers, in plain propositions.
+use Prim.Native.Nat.{ℕ}
 use mathlib.Core.Path.{_≡_}
 use mathlib.Core.Logic.{_↔_}
 use mathlib.Core.Option.{none}
 use mathlib.Core.List.{List}
-use lib.ListN.{length, take, drop}
 use Rattle.bigendian.specs.Numbers.{Bytes}
 use Rattle.outcomes.specs.Outcomes.{Refusal, Outcome, refused, answered, refusing}
-use Rattle.name_layout.specs.Layout.{storage, bytesOf}
 use Rattle.name_layout.specs.Keys.{Key}
 use Rattle.name.specs.Acceptable.{Acceptable}
 use Rattle.name.specs.Refusing.{Refused}
 use Rattle.name_search.specs.declared.Text.{Text}
-use Rattle.name_search.specs.Searches.{HasKey, textOf}
+use Rattle.name_search.specs.Searches.{HasKey, StringOf, HasBytes}
 
--- it answers a string exactly when the table is accepted and a record has the four numbers, and the string is that record's
+-- it answers a string exactly when the table is accepted and a record has the four numbers, and the string is that record's, with its number
 abbrev pub FoundExactlyWhen : (List ℕ → Key → Outcome Text) → Type 0
 FoundExactlyWhen lookup =
     (t : List ℕ) → Bytes t → (k : Key) (x : Text) →
-    (lookup t k ≡ answered x) ↔ (Acceptable t × ((i : ℕ) × HasKey t k i × (x ≡ textOf t i)))
+    (lookup t k ≡ answered x) ↔ (Acceptable t × ((i : ℕ) × HasKey t k i × StringOf t i x))
+
+-- there is at most one such record, so what is answered is settled
+abbrev pub AtMostOne : Type 0
+AtMostOne = (t : List ℕ) → Bytes t → Acceptable t → (k : Key) (i j : ℕ) → HasKey t k i → HasKey t k j → i ≡ j
 
 -- it answers 20 exactly when the table is accepted and no record has them
 abbrev pub MissingExactlyWhen : (List ℕ → Key → Outcome Text) → Type 0
@@ -35,8 +37,8 @@ pub record LookupRight (lookup : List ℕ → Key → Outcome Text) : Type 0 whe
   pub found : FoundExactlyWhen lookup
   pub missing : MissingExactlyWhen lookup
 
--- "is that record's bytes": from the start on, as many as the length, they lie within storage and are the string of a record that has the key
+-- "is that record's bytes": the record of its number has the key, and its bytes are that record's
 abbrev pub GivesItsBytes : (List ℕ → Key → Outcome Text) → Type 0
 GivesItsBytes lookup =
     (t : List ℕ) → Bytes t → (k : Key) (x : Text) → lookup t k ≡ answered x →
-    (storage t ≤ x .start) × (x .start + x .len ≤ length t) × ((i : ℕ) × HasKey t k i × (take (x .len) (drop (x .start) t) ≡ bytesOf t i))
+    HasKey t k (x .«record») × HasBytes t x

@@ -1,5 +1,5 @@
 // A string of a 'name' table, looked up by its key: platform, encoding, language and name, each any number.
-// Document 01, "Lookup gives the string's start, from the table's first byte, and its length", and refusal 20.
+// Document 01, "Lookup gives the string's start, from the table's first byte, and its length", and refusal 20; document 02, Ask 4: and the record's number.
 // It relies on the table's check and on the search in an accepted table.
 ghost use mathlib.Core.Path.{_≡_};
 ghost use Rattle.outcomes.specs.Outcomes.{refusalOf};
@@ -22,7 +22,7 @@ pub enum LookupRefusal {
 
 // What a lookup answers.
 pub enum Answer {
-    // The string of the record that has the key.
+    // The string of the record that has the key, with the record's number.
     Found(Text),
     Refused(LookupRefusal),
 }

@@ -16,10 +16,11 @@ use Rattle.outcomes.proofs.Tests.{or-false, not-below, fails}
 use Rattle.name_layout.specs.Layout.{count, bytesOf}
 use Rattle.name_layout.specs.Keys.{Key, keyOf, same, packed}
 use Rattle.name_layout.proofs.Keys.{Small, key-small, same-is, same-packed}
+use Rattle.name.specs.Acceptable.{Acceptable}
 use Rattle.name.specs.Acceptance.{faults}
 use Rattle.name.proofs.Acceptances.{keys-rise, string-inside}
 use Rattle.name_search.specs.declared.Text.{Text}
-use Rattle.name_search.specs.Searches.{HasKey, recordWith, beyond, recordNumbered, textOf}
+use Rattle.name_search.specs.Searches.{HasKey, recordWith, beyond, recordNumbered, StringOf, HasBytes, textOf}
 use Rattle.name_search.proofs.Halvings.{Rising, rising}
 
 -- the keys of an accepted table rise
@@ -87,10 +88,26 @@ module _ (t : List ℕ) (k : Key) where
 
 -- ---- a record's string
 
+-- it is the one with the record's number, and no other is
+pub text-is : (t : List ℕ) (i : ℕ) (x : Text) → (x ≡ textOf t i) ↔ StringOf t i x
+unfolding textOf
+text-is t i x = (
+  λ e. record {
+    start = ap (λ (y : Text). y .start) e;
+    len = ap (λ (y : Text). y .len) e;
+    number = ap (λ (y : Text). y .«record») e;
+  },
+  λ s. λ p. record { start = s .start p; len = s .len p; «record» = s .number p },
+)
+
 module _ (t : List ℕ) {x : Text} (i : ℕ) (e : x ≡ textOf t i) where
   pub text-inside : faults t ≡ none → i < count t → x .start + x .len ≤ length t
   unfolding textOf
   text-inside a h = rw e (string-inside t a i h)
+
+  pub has-bytes : Acceptable t → i < count t → HasBytes t x
+  unfolding textOf bytesOf
+  has-bytes a h = rw e (omega arith, a .strings i h, refl)
 
   -- the part cut out is its bytes
   pub part-is : take (x .start + x .len - x .start) (drop (x .start) t) ≡ bytesOf t i

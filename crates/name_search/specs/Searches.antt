@@ -1,12 +1,13 @@
--- Which record of a table has a key, as a search and as a proposition; and the string of a record.
-use Prim.Native.Nat.{ℕ, _<_}
+-- Which record of a table has a key, as a search and as a proposition; and likewise the string of a record.
+use Prim.Native.Nat.{ℕ, _+_, _≤_, _<_}
 use mathlib.Core.Path.{_≡_}
 use mathlib.Core.Bool.{Bool, _||_}
 use mathlib.Core.Option.{Option, none, some}
 use mathlib.Core.List.{List}
 use lib.Dec.{ltb, eqb}
+use lib.ListN.{length, take, drop}
 use Rattle.outcomes.specs.Firsts.{when, firstOf}
-use Rattle.name_layout.specs.Layout.{count, textAt, stringStart, stringLength}
+use Rattle.name_layout.specs.Layout.{count, storage, textAt, stringStart, stringLength, bytesOf}
 use Rattle.name_layout.specs.Keys.{Key, keyOf, same, packed}
 use Rattle.name_search.specs.declared.Found.{Found}
 use Rattle.name_search.specs.declared.Found.the-variants.{Record, Nothing}
@@ -33,6 +34,16 @@ beyond k = ltb 65535 (k .platform) || ltb 65535 (k .encoding) || ltb 65535 (k .l
 unfoldable pub recordNumbered : List ℕ → ℕ → Option ℕ
 recordNumbered t number = firstOf (λ i. when (eqb (packed (keyOf t i)) number) i) (count t)
 
--- "Lookup gives the string's start, from the table's first byte, and its length"
+-- x is the string of record i: "the string's start, from the table's first byte, and its length"; document 02, Ask 4: and "the record's number"
+pub record StringOf (t : List ℕ) (i : ℕ) (x : Text) : Type 0 where
+  pub start : x .start ≡ stringStart t (textAt i)
+  pub len : x .len ≡ stringLength t (textAt i)
+  pub number : x .«record» ≡ i
+
+-- what it points to: from the start on, as many bytes as the length, they lie within storage and are the string of the record of its number
+abbrev pub HasBytes : List ℕ → Text → Type 0
+HasBytes t x = (storage t ≤ x .start) × (x .start + x .len ≤ length t) × (take (x .len) (drop (x .start) t) ≡ bytesOf t (x .«record»))
+
+-- the string of record i
 unfoldable pub textOf : List ℕ → ℕ → Text
-textOf t i = record { start = stringStart t (textAt i); len = stringLength t (textAt i) }
+textOf t i = record { start = stringStart t (textAt i); len = stringLength t (textAt i); «record» = i }

@@ -1,5 +1,5 @@
 // The record of an accepted 'name' table that has a key, and the string of a record.
-// Document 01, "The 'name' layout". It relies on the table's check: the records of an accepted table are in the order of their keys.
+// Document 01, "The 'name' layout", and document 02, Ask 4. It relies on the table's check: the records of an accepted table are in the order of their keys.
 ghost use mathlib.Core.Path.{_≡_};
 ghost use mathlib.Core.Option.{none};
 ghost use Prim.Native.Nat.{_+_, _≤_};
@@ -23,10 +23,11 @@ pub struct Search {
     pub found: Found,
 }
 
-// A string's start, from the table's first byte, and its length.
+// A record's string: its start, from the table's first byte, its length, and the record's number.
 pub struct Text {
     pub start: usize,
     pub len: usize,
+    pub record: usize,
 }
 
 // The record of an accepted table with these four numbers: a part above 65,535 is in no record.
@@ -82,7 +83,7 @@ fn halving(table: &[u8], key: u64) -> Search
     }
 }
 
-// The string of record i.
+// The string of record i, with the record's number.
 pub fn text_of(table: &[u8], i: usize) -> Text
     requires { ⌜ recordAt i + 12 ≤ length (now table) ⌝ }
     ensures { λ r. ⌜ r ≡ textOf (now (table .entry)) i ⌝ }
@@ -91,5 +92,6 @@ pub fn text_of(table: &[u8], i: usize) -> Text
     Text {
         start: name_layout::string_start(table, at),
         len: name_layout::string_length(table, at) as usize,
+        record: i,
     }
 }

@@ -13,17 +13,17 @@ use Rattle.name_words.specs.Words.{textWords, versionWords}
 
 -- ---- the structs, their members in the header's order
 
-abbrev text : GvRefusal → (start len : ℕ) → GvText
-text r s n = record { refusal = r; start = s; length = n }
+abbrev text : GvRefusal → (start len number : ℕ) → GvText
+text r s n i = record { refusal = r; start = s; length = n; «record» = i }
 
-abbrev figures : GvRefusal → (major minor : ℕ) → GvVersion
-figures r a b = record { refusal = r; major = a; minor = b }
+abbrev figures : GvRefusal → (major minor number : ℕ) → GvVersion
+figures r a b i = record { refusal = r; major = a; minor = b; «record» = i }
 
 -- ---- "Where it is refused, all members after the refusal are 0, in every answer": for every refusal
 
 pub record Zeros (n : ℕ) (c : Option ℕ) : Type 0 where
-  pub of-text : textWords (refused n c) ≡ text (refusalWords n c) 0 0
-  pub of-version : versionWords (refused n c) ≡ figures (refusalWords n c) 0 0
+  pub of-text : textWords (refused n c) ≡ text (refusalWords n c) 0 0 0
+  pub of-version : versionWords (refused n c) ≡ figures (refusalWords n c) 0 0 0
 
 pub zeros : (n : ℕ) (c : Option ℕ) → Zeros n c
 unfolding textWords versionWords
@@ -31,10 +31,10 @@ zeros n c = record { of-text = refl; of-version = refl }
 
 -- ---- answers
 
-pub text-found : (s n : ℕ) → textWords (answered (record { start = s; len = n })) ≡ text ok s n
+pub text-found : (s n i : ℕ) → textWords (answered (record { start = s; len = n; «record» = i })) ≡ text ok s n i
 unfolding textWords
-text-found s n = refl
+text-found s n i = refl
 
-pub version-found : (a b : ℕ) → versionWords (answered (record { major = a; minor = b })) ≡ figures ok a b
+pub version-found : (a b i : ℕ) → versionWords (answered (record { major = a; minor = b; «record» = i })) ≡ figures ok a b i
 unfolding versionWords
-version-found a b = refl
+version-found a b i = refl

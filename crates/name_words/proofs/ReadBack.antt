@@ -2,13 +2,16 @@
 -- Assumes nothing.
 use Prim.Native.Nat.{ℕ}
 use mathlib.Core.Path.{_≡_, refl}
-use mathlib.Core.Bool.{Bool}
+use mathlib.Core.Bool.{Bool, true, false}
 use mathlib.Core.Option.{Option, none, some}
 use mathlib.Core.List.{List}
+use Rattle.outcomes.specs.Firsts.{when}
 use Rattle.outcomes.specs.Outcomes.{Refusal, bare, Outcome, answered, unless, foundOr}
-use Rattle.outcomes.proofs.Laws.{Only, only-when}
-use Rattle.version_text.specs.Versions.{Figures, versionIn}
+use Rattle.outcomes.proofs.Laws.{Only}
+use Rattle.characters.specs.Strings.{characters, odd}
+use Rattle.version_text.specs.Versions.{Figures, firstNumber, versionIn}
 use Rattle.name_search.specs.declared.Text.{Text}
+use Rattle.name_answers.specs.Versions.{Reading, readFrom}
 use Rattle.refusal_words.proofs.ReadBack.{said, Numbered, back-unless}
 use Rattle.name_words.specs.declared.GvText.{GvText}
 use Rattle.name_words.specs.declared.GvVersion.{GvVersion}
@@ -17,7 +20,7 @@ use Rattle.name_words.specs.Words.{textWords, versionWords}
 -- ---- a string
 
 abbrev textIn : GvText → Text
-textIn w = record { start = w .start; len = w .length }
+textIn w = record { start = w .start; len = w .length; «record» = w .«record» }
 
 abbrev pub textSaid : GvText → Outcome Text
 textSaid w = said (w .refusal) (textIn w)
@@ -28,22 +31,23 @@ text-back r o p h = back-unless textWords (λ w. w .refusal) textIn (λ n c. ref
 
 -- ---- a version number
 
-abbrev figuresIn : GvVersion → Figures
-figuresIn w = record { major = w .major; minor = w .minor }
+abbrev readingIn : GvVersion → Reading
+readingIn w = record { major = w .major; minor = w .minor; «record» = w .«record» }
 
-abbrev pub versionSaid : GvVersion → Outcome Figures
-versionSaid w = said (w .refusal) (figuresIn w)
+abbrev pub versionSaid : GvVersion → Outcome Reading
+versionSaid w = said (w .refusal) (readingIn w)
 
-pub version-back : (r : Option Refusal) (o : Outcome Figures) → Only Numbered r → versionSaid (versionWords o) ≡ o → versionSaid (versionWords (unless r o)) ≡ unless r o
+pub version-back : (r : Option Refusal) (o : Outcome Reading) → Only Numbered r → versionSaid (versionWords o) ≡ o → versionSaid (versionWords (unless r o)) ≡ unless r o
 unfolding versionWords
-version-back r o p h = back-unless versionWords (λ w. w .refusal) figuresIn (λ n c. refl) r o p h
+version-back r o p h = back-unless versionWords (λ w. w .refusal) readingIn (λ n c. refl) r o p h
 
--- the number in a string, or 25
-found-back : (q : Option Figures) → let o = foundOr (bare 25) q answered in versionSaid (versionWords o) ≡ o
-unfolding foundOr versionWords
-found-back none = refl
-found-back (some f) = refl
-
-pub number-back : (wide : Bool) (bytes : List ℕ) → versionSaid (versionWords (versionIn wide bytes)) ≡ versionIn wide bytes
-unfolding versionIn
-number-back wide bytes = version-back _ _ (only-when Numbered _ _ refl) (found-back _)
+-- the number in a record's string, or 25
+pub number-back : (i : ℕ) (wide : Bool) (bytes : List ℕ) → let o = readFrom i (versionIn wide bytes) in versionSaid (versionWords o) ≡ o
+unfolding versionIn unless when foundOr readFrom versionWords
+number-back i wide bytes = at (odd wide bytes) (firstNumber (characters wide bytes))
+  where
+    at : (t : Bool) (q : Option Figures) →
+        let o = readFrom i (unless (when t (bare 25)) (foundOr (bare 25) q answered)) in versionSaid (versionWords o) ≡ o
+    at true q = refl
+    at false none = refl
+    at false (some f) = refl

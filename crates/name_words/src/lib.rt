@@ -1,5 +1,5 @@
 // The answers on a 'name' table in the words of C: a string, a version number, and the check's verdict.
-// Document 01, the check of a 'name' table, lookup, and "PostScript name and version number"; `gv_text` and `gv_version` in `include/gyalvindor.h`.
+// Document 01, the check of a 'name' table, lookup, and "PostScript name and version number"; document 02, Ask 4; `gv_text` and `gv_version` in `include/gyalvindor.h`.
 // Relies on `refusal_words` for a refusal's words, and on `name`, `name_lookup` and `name_answers` for what an answer says.
 ghost use mathlib.Core.Path.{_≡_};
 ghost use Rattle.name.specs.Refusals.{saidCheck};
@@ -17,42 +17,46 @@ use refusal_words::GvRefusal;
 use refusal_words::NO_REFUSAL;
 use refusal_words::told_words;
 
-// The answer of a lookup and of the PostScript question: the string's start and length.
+// The answer of a lookup and of the PostScript question: the string's start and length, and the number of its record.
 #[repr(C)]
 pub struct GvText {
     pub refusal: GvRefusal,
     pub start: usize,
     pub length: usize,
+    pub record: usize,
 }
 
 impl GvText {
-    fn new(refusal: GvRefusal, start: usize, len: usize) -> GvText
-        ensures { λ r. ⌜ r ≡ record { refusal = refusal; start = start; length = len } ⌝ }
+    fn new(refusal: GvRefusal, start: usize, len: usize, number: usize) -> GvText
+        ensures { λ r. ⌜ r ≡ record { refusal = refusal; start = start; length = len; «record» = number } ⌝ }
     {
         GvText {
             refusal,
             start,
             length: len,
+            record: number,
         }
     }
 }
 
-// The answer of the version question: the figures before and after the period.
+// The answer of the version question: the figures before and after the period, and the number of the record whose string they stand in.
 #[repr(C)]
 pub struct GvVersion {
     pub refusal: GvRefusal,
     pub major: u32,
     pub minor: u32,
+    pub record: usize,
 }
 
 impl GvVersion {
-    fn new(refusal: GvRefusal, major: u32, minor: u32) -> GvVersion
-        ensures { λ r. ⌜ r ≡ record { refusal = refusal; major = major; minor = minor } ⌝ }
+    fn new(refusal: GvRefusal, major: u32, minor: u32, number: usize) -> GvVersion
+        ensures { λ r. ⌜ r ≡ record { refusal = refusal; major = major; minor = minor; «record» = number } ⌝ }
     {
         GvVersion {
             refusal,
             major,
             minor,
+            record: number,
         }
     }
 }
@@ -73,8 +77,8 @@ pub fn found_words(found: LookedUp) -> GvText
 {
     let answer = found.answer;
     match answer {
-        Answer::Found(text) => GvText::new(NO_REFUSAL, text.start, text.len),
-        Answer::Refused(why) => GvText::new(told_words(why.told()), 0, 0),
+        Answer::Found(text) => GvText::new(NO_REFUSAL, text.start, text.len, text.record),
+        Answer::Refused(why) => GvText::new(told_words(why.told()), 0, 0, 0),
     }
 }
 
@@ -83,8 +87,8 @@ pub fn named_words(answer: PostscriptAnswer) -> GvText
     ensures { λ r. ⌜ r ≡ textWords (saidName answer) ⌝ }
 {
     match answer {
-        PostscriptAnswer::Name(text) => GvText::new(NO_REFUSAL, text.start, text.len),
-        PostscriptAnswer::Refused(why) => GvText::new(told_words(why.told()), 0, 0),
+        PostscriptAnswer::Name(text) => GvText::new(NO_REFUSAL, text.start, text.len, text.record),
+        PostscriptAnswer::Refused(why) => GvText::new(told_words(why.told()), 0, 0, 0),
     }
 }
 
@@ -93,9 +97,11 @@ pub fn version_words(answer: VersionAnswer) -> GvVersion
     ensures { λ r. ⌜ r ≡ versionWords (saidVersion answer) ⌝ }
 {
     match answer {
-        VersionAnswer::Number { major, minor } => {
-            GvVersion::new(NO_REFUSAL, major as u32, minor as u32)
-        }
-        VersionAnswer::Refused(why) => GvVersion::new(told_words(why.told()), 0, 0),
+        VersionAnswer::Number {
+            major,
+            minor,
+            record,
+        } => GvVersion::new(NO_REFUSAL, major as u32, minor as u32, record),
+        VersionAnswer::Refused(why) => GvVersion::new(told_words(why.told()), 0, 0, 0),
     }
 }

@@ -66,13 +66,19 @@ fn postscript(found: PostscriptAnswer) {
 fn string(found: Text) {
     numbered(b"start ", found.start as u64);
     numbered(b" length ", found.len as u64);
+    numbered(b" record ", found.record as u64);
 }
 
 fn version(found: VersionAnswer) {
     match found {
-        VersionAnswer::Number { major, minor } => {
+        VersionAnswer::Number {
+            major,
+            minor,
+            record,
+        } => {
             numbered(b"", major as u64);
             numbered(b" ", minor as u64);
+            numbered(b" record ", record as u64);
         }
         VersionAnswer::Refused(why) => refused(why.told()),
     }

@@ -1,3 +1,4 @@
 pub mod Starred
 pub mod Bits
 pub mod Records
+pub mod Which

@@ -3,12 +3,13 @@
 use std::fmt::Display;
 use std::panic::{self, AssertUnwindSafe};
 
-use crate::faults::{self, Refused};
+use crate::faults::{self, Front, Refused};
 use crate::met::{self, Thing};
 use crate::numbers::Numbers;
 use crate::pair::Marks;
 use crate::question::{shown, Function, Question, Words};
 use crate::raw;
+use crate::records;
 use crate::sides::{by_crate, by_second};
 use crate::tally::Tally;
 
@@ -79,10 +80,21 @@ impl Asker {
         read: Option<Refused>,
     ) -> Result<Words, Difference> {
         let words = self.ask(table, question)?;
-        as_read(&question, question.function(), words, read.map(own_words))?;
-        if let Some((number, _)) = read {
-            let thing = Thing::Passed(question.function(), number);
-            self.tally.met.add(thing);
+        let function = question.function();
+        as_read(&question, function, words, read.map(own_words))?;
+        let mut met = |thing| self.tally.met.add(thing);
+        match (read, Front::of(table)) {
+            (Some(refused), _) => {
+                met(Thing::Passed(function, refused.0));
+                met::of_refused(table, function, refused, &mut met);
+            }
+            (None, Ok(front)) => {
+                if let Some(said) = records::against(&front, question, words) {
+                    return Err(otherwise(&question, function, words, &said));
+                }
+                met::of_answer(&front, question, words, &mut met);
+            }
+            (None, Err(_)) => {}
         }
         Ok(words)
     }
@@ -212,9 +224,12 @@ impl Asker {
                         self.key_and_near_misses(table, key, read)?;
                     }
                 } else {
-                    // The two ends, and some between.
+                    // The two ends, the numbers about one byte's, and some between.
                     self.key_and_near_misses(table, keys[0], read)?;
                     self.key_and_near_misses(table, keys[keys.len() - 1], read)?;
+                    for &key in keys.iter().skip(255).take(2) {
+                        self.ask_name(table, Question::Lookup(key), read)?;
+                    }
                     for _ in 0..6 {
                         let key = numbers.pick(&keys);
                         self.ask_name(table, Question::Lookup(key), read)?;
@@ -416,10 +431,15 @@ pub fn as_read(
         None if faults::of_table(words[0]) => "accepted".to_string(),
         _ => return Ok(()),
     };
-    Err(Difference(format!(
+    Err(otherwise(question, function, words, &said))
+}
+
+/// The message where all sides agree and the comparison's own reading says something else.
+fn otherwise(question: &dyn Display, function: Function, words: Words, said: &str) -> Difference {
+    Difference(format!(
         "{question}: the sides agree, but the comparison reads the papers otherwise\n  comparison: {said}\n  all sides:  {}\n",
         shown(function, words)
-    )))
+    ))
 }
 
 /// One side's writing into a room.

@@ -55,11 +55,12 @@ impl Record {
 /// A table's counts and its storage, where the conditions of 10 to 14 don't hold.
 pub struct Front<'a> {
     table: &'a [u8],
-    tagged: bool,
+    /// Whether the format is 1.
+    pub tagged: bool,
     pub records: usize,
     pub tags: usize,
     /// The storage's start, from the table's first byte.
-    start: usize,
+    pub start: usize,
 }
 
 /// The number of a refusal, and what it carries.
@@ -109,8 +110,7 @@ impl Front<'_> {
 
     /// Record `number`, counted from 0.
     pub fn record(&self, number: usize) -> Record {
-        let at = 6 + 12 * number;
-        let [length, offset] = [at + 8, at + 10].map(|at| word(self.table, at) as usize);
+        let [length, offset] = self.string(number);
         let key = self.key(number);
         let [platform, _, language, _] = key;
         let allowed = match (language.checked_sub(0x8000), self.tagged) {
@@ -135,6 +135,23 @@ impl Front<'_> {
     pub fn key(&self, number: usize) -> [u32; 4] {
         let at = 6 + 12 * number;
         [0, 2, 4, 6].map(|part| word(self.table, at + part))
+    }
+
+    /// Length and offset of the string of record `number`.
+    pub fn string(&self, number: usize) -> [usize; 2] {
+        let at = 6 + 12 * number;
+        [at + 8, at + 10].map(|at| word(self.table, at) as usize)
+    }
+
+    /// The string's bytes of record `number`, in an accepted table.
+    pub fn text(&self, number: usize) -> &[u8] {
+        let [length, offset] = self.string(number);
+        &self.table[self.start + offset..][..length]
+    }
+
+    /// The number of the first record that has this key.
+    pub fn number_of(&self, key: [u32; 4]) -> Option<usize> {
+        (0..self.records).find(|&number| self.key(number) == key)
     }
 
     /// Where the string of tag `number` lies.

@@ -13,6 +13,8 @@ mod pair_sweeps;
 mod partner;
 mod question;
 mod raw;
+mod record_sweeps;
+mod records;
 mod rows;
 mod sides;
 mod sweeps;
@@ -32,7 +34,7 @@ use tally::Tally;
 
 const USAGE: &str = "usage: compare [OPTION]... [FOLDER]...
 Compares the archive and the Rust crate over it with the second program on the rows of document 01 and of document 02's Asks 1
-to 3, in sweeps over the places that the rules look at, on tables made at random, and on the fonts under the folders. Without
+to 4, in sweeps over the places that the rules look at, on tables made at random, and on the fonts under the folders. Without
 folders: the fonts installed on the machine.
 
   --rows, --sweeps, --random, --fonts
@@ -58,8 +60,8 @@ macro_rules! say {
 const LONG: u64 = 100_000;
 /// How often each table of a font is damaged.
 const DAMAGED: u64 = 50;
-/// With one of so many 'name' tables made at random, two of 5,460 records are compared.
-const LARGEST: usize = 3_000;
+/// With one of so many 'name' tables made at random, two of 5,460 records are compared, and the first of them is asked about.
+const LARGEST: usize = 2_000;
 
 /// What the program is told to do.
 struct Task {
@@ -262,7 +264,11 @@ fn document_rows(task: &Task) -> Result<Tally, Stop> {
 fn sweeps_over(task: &Task) -> Result<Tally, Stop> {
     let mut asker = Asker::new();
     let terminal = io::stderr().is_terminal();
-    for (words, sweep) in sweeps::SWEEPS.into_iter().chain(pair_sweeps::SWEEPS) {
+    let groups = sweeps::SWEEPS
+        .into_iter()
+        .chain(record_sweeps::SWEEPS)
+        .chain(pair_sweeps::SWEEPS);
+    for (words, sweep) in groups {
         if terminal {
             eprint!("\r{:60}\rsweep: {words} ", "");
         }
@@ -312,7 +318,7 @@ fn at_random(task: &Task) -> Result<Tally, Stop> {
     }
     if missing.is_empty() {
         say!(
-            "at random: every refusal, rule, field that does not fit, kind of answer, setting of the rights bits and thing of a comparison and of a record was met"
+            "at random: every refusal, rule, field that does not fit, kind of answer, setting of the rights bits and thing of a comparison, of a record and of an answer was met"
         );
     } else {
         say!(
@@ -327,7 +333,8 @@ fn at_random(task: &Task) -> Result<Tally, Stop> {
 type Numbered = Option<(u64, Vec<u8>)>;
 
 /// The pairs in which a table made at random is compared, and with what: the table and a partner made from it, the table of
-/// its kind before it and the table, and with some tables two of 5,460 records. `before` holds the last 'name' and 'OS/2' table.
+/// its kind before it and the table, and with some tables one of 5,460 records alone and two of them. `before` holds the last
+/// 'name' and 'OS/2' table.
 fn pairs(
     task: &Task,
     number: u64,
@@ -364,6 +371,7 @@ fn pairs(
     *before = Some((number, bytes.clone()));
     if matches!(made, Made::Name(_)) && numbers.chance(1, LARGEST) {
         let (left, right) = partner::largest(numbers);
+        pairs.push(("with one of 5,460 records", Made::Name(left.clone())));
         pairs.push(("with two of 5,460 records", Made::NamePair(left, right)));
     }
     pairs

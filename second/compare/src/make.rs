@@ -1,6 +1,6 @@
 //! Makes tables at random: valid ones, ones with a fault at an edge, ones cut short.
 //!
-//! The makers know the rules of document 01 and of document 02's Asks 1 to 3 only to come near their edges. Whether a table is
+//! The makers know the rules of document 01 and of document 02's Asks 1 to 4 only to come near their edges. Whether a table is
 //! right is for the compared programs.
 
 use second::os2::{size, FIELDS};
@@ -197,6 +197,9 @@ fn valid_name(n: &mut Numbers) -> Plan {
         records[number].offset = 65_535;
         records[number].length = n.pick(&[0, 1, 2, 65_535]);
     }
+    if records.len() > 1 && n.chance(1, 4) {
+        share_string(n, &mut records);
+    }
     let tags = (0..tag_count)
         .map(|_| {
             let (offset, length) = place_in(n, storage.len());
@@ -223,6 +226,18 @@ fn valid_name(n: &mut Numbers) -> Plan {
     };
     plan.start = (plan.front() + plan.gap.len()).min(65_535) as u16;
     plan
+}
+
+/// Gives records the very string of another one. Those that hold a PostScript name or a version keep theirs.
+fn share_string(n: &mut Numbers, records: &mut [Record]) {
+    let Record { length, offset, .. } = records[n.below(records.len())];
+    for _ in 0..1 + n.below(3) {
+        let number = n.below(records.len());
+        let record = &mut records[number];
+        if ![POSTSCRIPT_ONE, POSTSCRIPT_TWO, VERSION_ONE, VERSION_TWO].contains(&record.key) {
+            (record.length, record.offset) = (length, offset);
+        }
+    }
 }
 
 /// Any place of a string inside a storage of this length; often it ends on the last byte, or is empty there.
@@ -268,6 +283,13 @@ fn keys(n: &mut Numbers, tagged: bool, tags: usize) -> Vec<Key> {
         };
         keys.push(key);
     }
+    // So many before them that their numbers need two bytes, or few.
+    let low = match n.below(100) {
+        0..=2 => 246 + n.below(60),
+        3..=6 => n.below(20),
+        _ => 0,
+    };
+    keys.extend((0..low).map(|place| [0, 3, (place / 16) as u16, (place % 16) as u16]));
     let more = match n.below(2000) {
         0 => 5_456 + n.below(8),
         1..=40 => n.below(300),

@@ -10,7 +10,8 @@ use second::{compare, name, os2};
 use crate::ask::word;
 use crate::faults::{self, Front, Place, Record, Refused};
 use crate::pair::{Of, Pair, LEVELS_ABOVE};
-use crate::question::Function;
+use crate::question::{Function, Question, Words};
+use crate::records::{POSTSCRIPT, VERSION};
 
 /// The fields that are not in every version.
 const LATER_FIELDS: std::ops::Range<u32> = 39..48;
@@ -163,6 +164,72 @@ const TOGETHER: [(u32, u32); 7] = [
     (18, 17),
 ];
 
+/// Where a record that is found stands among the table's records.
+#[derive(Clone, Copy, PartialEq, Eq, PartialOrd, Ord)]
+pub enum Spot {
+    /// It is the only one.
+    Only,
+    /// It is the first of several.
+    First,
+    /// There are records before and behind it.
+    Between,
+    /// It is the last of several.
+    Last,
+}
+
+pub const SPOTS: [Spot; 4] = [Spot::Only, Spot::First, Spot::Between, Spot::Last];
+
+/// The version record that counts, and whether the other one is there.
+#[derive(Clone, Copy, PartialEq, Eq, PartialOrd, Ord)]
+pub enum Used {
+    /// Platform 3's, and platform 1's is there too.
+    ThreeOfBoth,
+    /// Platform 3's alone.
+    Three,
+    /// Platform 1's alone.
+    One,
+}
+
+pub const USED: [Used; 3] = [Used::ThreeOfBoth, Used::Three, Used::One];
+
+impl Used {
+    fn words(self) -> &'static str {
+        match self {
+            Used::ThreeOfBoth => "platform 3's record beside platform 1's",
+            Used::Three => "platform 3's record alone",
+            Used::One => "platform 1's record alone",
+        }
+    }
+}
+
+/// The numbers of records that a lookup has to tell: about the most that one byte holds, and the last that there is.
+pub const FOUND_NUMBERS: [usize; 3] = [255, 256, MOST_RECORDS - 1];
+/// The questions that tell a record.
+const TELLING: [Function; 3] = [Function::Lookup, Function::PostScript, Function::Version];
+/// The refusals of a table, each with the formats of the tables that it is met with; it has none where the table is too short or
+/// its format is another.
+const OF_TABLES: [(u32, &[Option<u16>]); 11] = [
+    (10, &[None]),
+    (11, &[None]),
+    (12, &[Some(0), Some(1)]),
+    (13, &[Some(1)]),
+    (14, &[Some(0), Some(1)]),
+    (15, &[Some(0), Some(1)]),
+    (16, &[Some(1)]),
+    (17, &[Some(0), Some(1)]),
+    (18, &[Some(0), Some(1)]),
+    (19, &[Some(0), Some(1)]),
+    (27, &[Some(0), Some(1)]),
+];
+/// Refusals of what is asked, by which no record is told either; 22 and 25 are things of their own.
+const OF_QUESTIONS: [(Function, u32); 5] = [
+    (Function::Lookup, 20),
+    (Function::PostScript, 21),
+    (Function::PostScript, 23),
+    (Function::PostScript, 24),
+    (Function::Version, 20),
+];
+
 /// A thing that was met.
 #[derive(Clone, Copy, PartialEq, Eq, PartialOrd, Ord)]
 pub enum Thing {
@@ -244,6 +311,36 @@ pub enum Thing {
     Behind(u32, u32),
     /// The refusal is 16, for a tag's string that lies so, at tag 0 or (true) at a later one.
     TagAt(Place, bool),
+    /// In a table of this format a lookup is found in a record that stands so.
+    FoundAt(u16, Spot),
+    /// In a table of this format a lookup is found in the record of this number.
+    FoundNumber(u16, usize),
+    /// In a table of this format a lookup is found in a record above number 256.
+    FoundAbove(u16),
+    /// In a table of this format a lookup is found in a record whose string, not empty, starts at the same byte and is as long as
+    /// that of a record before it or (true) behind it.
+    SameString(u16, bool),
+    /// In a table of this format a lookup is found in a record whose key differs in this part alone from that of the record
+    /// before it or (true) behind it.
+    OnePart(u16, usize, bool),
+    /// In a table of this format a PostScript name is answered, with or without other records before its two, between them and
+    /// behind them.
+    NameAmong(u16, [bool; 3]),
+    /// In a table of this format a PostScript name is answered from a record above number 255.
+    NameAbove(u16),
+    /// In a table of this format a version number is answered from this record, without or (true) with other records before the
+    /// version records.
+    VersionFrom(u16, Used, bool),
+    /// In a table of this format a version number is answered from this record, above number 255.
+    VersionAbove(u16, Used),
+    /// In a table of this format, if it has one, this question is refused by this number. If a record is at fault or ill-formed,
+    /// it is not record 0.
+    NoRecord(Function, u32, Option<u16>),
+    /// In a table of this format a PostScript name is refused by 22, where the first or (1) the second of its records is there,
+    /// and is not record 0.
+    OnePresent(u16, usize),
+    /// In a table of this format a version number is refused by 25 because of this record, which is not record 0.
+    NoNumber(u16, Used),
 }
 
 /// The word for a side.
@@ -331,8 +428,7 @@ impl fmt::Display for Thing {
                 write!(f, "name tables: {number} at a record behind record 1")
             }
             Thing::FallsBy(part) => {
-                let word = ["platform", "encoding", "language", "name"][part];
-                write!(f, "name tables: 17 for a lower {word}")
+                write!(f, "name tables: 17 for a lower {}", PARTS[part])
             }
             Thing::TwoBefore => write!(f, "name tables: 17 for the key two before"),
             Thing::EqualStrings(true) => write!(f, "name tables: 19 with the same string's place"),
@@ -351,9 +447,93 @@ impl fmt::Display for Thing {
                 let at = if later { "a later tag" } else { "tag 0" };
                 write!(f, "name tables: 16 at {at}, whose string {words}")
             }
+            Thing::FoundAt(format, spot) => {
+                let words = match spot {
+                    Spot::Only => "the only record",
+                    Spot::First => "the first record",
+                    Spot::Between => "a record between others",
+                    Spot::Last => "the last record",
+                };
+                write!(f, "lookup: format {format}, found in {words}")
+            }
+            Thing::FoundNumber(format, number) => {
+                write!(f, "lookup: format {format}, found in record {number}")
+            }
+            Thing::FoundAbove(format) => {
+                write!(f, "lookup: format {format}, found above record 256")
+            }
+            Thing::SameString(format, behind) => {
+                let side = beside(behind);
+                write!(f, "lookup: format {format}, the same string {side} it")
+            }
+            Thing::OnePart(format, part, behind) => {
+                let (word, side) = (PARTS[part], beside(behind));
+                write!(
+                    f,
+                    "lookup: format {format}, a key {side} it with another {word} alone"
+                )
+            }
+            Thing::NameAmong(format, others) => {
+                let title = Function::PostScript.title();
+                write!(
+                    f,
+                    "{title}: format {format}, others before, between, behind {others:?}"
+                )
+            }
+            Thing::NameAbove(format) => {
+                let title = Function::PostScript.title();
+                write!(f, "{title}: format {format}, above record 255")
+            }
+            Thing::VersionFrom(format, used, others) => {
+                let title = Function::Version.title();
+                let words = used.words();
+                write!(
+                    f,
+                    "{title}: format {format}, {words}, others before it {others}"
+                )
+            }
+            Thing::VersionAbove(format, used) => {
+                let title = Function::Version.title();
+                let words = used.words();
+                write!(f, "{title}: format {format}, {words}, above record 255")
+            }
+            Thing::NoRecord(of, number, None) => {
+                write!(f, "{}: no record beside {number}", of.title())
+            }
+            Thing::NoRecord(of, number, Some(format)) => {
+                let title = of.title();
+                write!(f, "{title}: format {format}, no record beside {number}")
+            }
+            Thing::OnePresent(format, which) => {
+                let title = Function::PostScript.title();
+                let platform = POSTSCRIPT[which][0];
+                write!(
+                    f,
+                    "{title}: format {format}, no record beside 22 with platform {platform}'s alone"
+                )
+            }
+            Thing::NoNumber(format, used) => {
+                let title = Function::Version.title();
+                let words = used.words();
+                write!(
+                    f,
+                    "{title}: format {format}, no record beside 25 of {words}"
+                )
+            }
         }
     }
 }
+
+/// The words for a record before or (true) behind another.
+fn beside(behind: bool) -> &'static str {
+    match behind {
+        false => "before",
+        true => "behind",
+    }
+}
+
+/// The words for the parts of a key.
+const PARTS: [&str; 4] = ["platform", "encoding", "language", "name"];
 
 /// All things that a long run has to meet.
 pub fn all() -> Vec<Thing> {
@@ -417,6 +597,7 @@ pub fn all() -> Vec<Thing> {
         Thing::ManyRows,
     ]);
     of_records(&mut things);
+    of_answers(&mut things);
     things
 }
 
@@ -446,6 +627,42 @@ fn of_records(things: &mut Vec<Thing>) {
     for number in OF_RECORDS {
         things.extend(OF_RECORDS.map(|other| Thing::Behind(number, other)));
         things.push(Thing::Behind(number, 16));
+    }
+}
+
+/// The things of 'name' tables that document 02's Ask 4 asks for.
+fn of_answers(things: &mut Vec<Thing>) {
+    for function in TELLING {
+        for (number, formats) in OF_TABLES {
+            let things_of = |&format| Thing::NoRecord(function, number, format);
+            things.extend(formats.iter().map(things_of));
+        }
+    }
+    let both = [false, true];
+    for format in [0, 1] {
+        things.extend(SPOTS.map(|spot| Thing::FoundAt(format, spot)));
+        things.extend(FOUND_NUMBERS.map(|number| Thing::FoundNumber(format, number)));
+        things.push(Thing::FoundAbove(format));
+        for behind in both {
+            things.push(Thing::SameString(format, behind));
+            things.extend((0..4).map(|part| Thing::OnePart(format, part, behind)));
+        }
+        for before in both {
+            for between in both {
+                things
+                    .extend(both.map(|behind| Thing::NameAmong(format, [before, between, behind])));
+            }
+        }
+        things.push(Thing::NameAbove(format));
+        for used in USED {
+            things.extend(both.map(|others| Thing::VersionFrom(format, used, others)));
+            things.push(Thing::VersionAbove(format, used));
+            things.push(Thing::NoNumber(format, used));
+        }
+        things.extend(
+            OF_QUESTIONS.map(|(function, number)| Thing::NoRecord(function, number, Some(format))),
+        );
+        things.extend([0, 1].map(|which| Thing::OnePresent(format, which)));
     }
 }
 
@@ -592,6 +809,119 @@ pub fn of_name(table: &[u8], met: &mut dyn FnMut(Thing)) {
     }
     if (0..front.tags).any(|tag| front.tag(tag) != Place::Inside) {
         met(Thing::Behind(number, 16));
+    }
+}
+
+/// Tells what a question on a refused 'name' table is met by: no record is told.
+pub fn of_refused(
+    table: &[u8],
+    function: Function,
+    (number, place): Refused,
+    met: &mut dyn FnMut(Thing),
+) {
+    // The record at fault is not record 0, so that its number would show.
+    let record_0 = OF_RECORDS.contains(&number) && place == Some(0);
+    if TELLING.contains(&function) && !record_0 {
+        let format = match number {
+            10 | 11 => None,
+            _ => Some(word(table, 0) as u16),
+        };
+        met(Thing::NoRecord(function, number, format));
+    }
+}
+
+/// Tells what an answer, or a refusal of what is asked, on an accepted 'name' table is met by. The table is read here; of the
+/// words, the number and the record count.
+pub fn of_answer(front: &Front, question: Question, words: Words, met: &mut dyn FnMut(Thing)) {
+    let format = u16::from(front.tagged);
+    let number = words[0] as u32;
+    match question {
+        Question::Lookup(_) if number == 0 => of_found(front, words[5] as usize, met),
+        Question::Lookup(key) => {
+            // There are keys below and above it.
+            let last = front.records.saturating_sub(1);
+            if front.records > 0 && front.key(0) < key && key < front.key(last) {
+                met(Thing::NoRecord(Function::Lookup, number, Some(format)));
+            }
+        }
+        Question::PostScript => {
+            let refused = Thing::NoRecord(Function::PostScript, number, Some(format));
+            match (number, POSTSCRIPT.map(|key| front.number_of(key))) {
+                (0, [Some(first), Some(second)]) => {
+                    let others = [first > 0, second > first + 1, front.records > second + 1];
+                    met(Thing::NameAmong(format, others));
+                    if first > 255 {
+                        met(Thing::NameAbove(format));
+                    }
+                }
+                (21, _) if front.records > 0 => met(refused),
+                (22, numbers) => (0..2)
+                    .filter(|&which| numbers[which] > Some(0))
+                    .for_each(|which| met(Thing::OnePresent(format, which))),
+                (23 | 24, [Some(1..), _]) => met(refused),
+                _ => {}
+            }
+        }
+        Question::Version => {
+            let (used, record, lowest) = match VERSION.map(|key| front.number_of(key)) {
+                [Some(three), Some(one)] => (Used::ThreeOfBoth, three, one),
+                [Some(three), None] => (Used::Three, three, three),
+                [None, Some(one)] => (Used::One, one, one),
+                [None, None] if front.records > 0 => {
+                    return met(Thing::NoRecord(Function::Version, number, Some(format)));
+                }
+                [None, None] => return,
+            };
+            match number {
+                0 => {
+                    met(Thing::VersionFrom(format, used, lowest > 0));
+                    if record > 255 {
+                        met(Thing::VersionAbove(format, used));
+                    }
+                }
+                _ if record > 0 => met(Thing::NoNumber(format, used)),
+                _ => {}
+            }
+        }
+        _ => {}
+    }
+}
+
+/// Tells what a lookup that is found in record `at` is met by.
+fn of_found(front: &Front, at: usize, met: &mut dyn FnMut(Thing)) {
+    let format = u16::from(front.tagged);
+    let last = front.records - 1;
+    let spot = match at {
+        _ if last == 0 => Spot::Only,
+        0 => Spot::First,
+        _ if at == last => Spot::Last,
+        _ => Spot::Between,
+    };
+    met(Thing::FoundAt(format, spot));
+    if FOUND_NUMBERS.contains(&at) {
+        met(Thing::FoundNumber(format, at));
+    }
+    if at > 256 {
+        met(Thing::FoundAbove(format));
+    }
+    let key = front.key(at);
+    let before = at.checked_sub(1);
+    let behind = (at < last).then_some(at + 1);
+    for (neighbour, behind) in [(before, false), (behind, true)] {
+        if let Some(other) = neighbour.map(|number| front.key(number)) {
+            let mut parts = (0..4).filter(|&part| key[part] != other[part]);
+            if let (Some(part), None) = (parts.next(), parts.next()) {
+                met(Thing::OnePart(format, part, behind));
+            }
+        }
+    }
+    let string = front.string(at);
+    if string[0] > 0 {
+        for (mut numbers, behind) in [(0..at, false), (at + 1..front.records, true)] {
+            if numbers.any(|number| front.string(number) == string) {
+                met(Thing::SameString(format, behind));
+            }
+        }
     }
 }
 

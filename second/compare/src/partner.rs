@@ -269,12 +269,14 @@ fn laid_out(n: &mut Numbers, said: &Said) -> Option<Vec<u8>> {
     Some(bytes)
 }
 
-/// A table with 5,460 records, and the same with one byte changed: in the storage, in a record, or in the header.
+/// A table with 5,460 records, of either format, and the same with one byte changed: in the storage, in a record, or in the
+/// header.
 pub fn largest(n: &mut Numbers) -> (Vec<u8>, Vec<u8>) {
-    let start = 6 + 12 * 5_460;
+    let tagged = n.chance(1, 2);
+    let start = 6 + 12 * 5_460 + if tagged { 2 } else { 0 };
     let storage = 1 + n.below(300);
     let mut bytes = Vec::new();
-    for word in [0, 5_460, start] {
+    for word in [usize::from(tagged), 5_460, start] {
         bytes.extend((word as u16).to_be_bytes());
     }
     for record in 0..5_460 {
@@ -284,6 +286,8 @@ pub fn largest(n: &mut Numbers) -> (Vec<u8>, Vec<u8>) {
             bytes.extend((word as u16).to_be_bytes());
         }
     }
+    // No tags.
+    bytes.resize(start, 0);
     bytes.extend(n.bytes(storage));
     let mut other = bytes.clone();
     let place = match n.below(4) {

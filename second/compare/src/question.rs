@@ -91,8 +91,8 @@ impl Function {
     pub fn members(self) -> &'static [&'static str] {
         match self {
             Function::NameCheck | Function::Os2Check => &[],
-            Function::Lookup | Function::PostScript => &["start", "length"],
-            Function::Version => &["major", "minor"],
+            Function::Lookup | Function::PostScript => &["start", "length", "record"],
+            Function::Version => &["major", "minor", "record"],
             Function::Field
             | Function::SelectionBit
             | Function::UnicodeBit

@@ -15,6 +15,7 @@ struct Text {
     refusal: Refusal,
     start: usize,
     length: usize,
+    record: usize,
 }
 
 #[repr(C)]
@@ -22,6 +23,7 @@ struct Version {
     refusal: Refusal,
     major: u32,
     minor: u32,
+    record: usize,
 }
 
 #[repr(C)]
@@ -122,7 +124,13 @@ fn with(refusal: Refusal, members: [u64; 4]) -> Words {
 }
 
 fn text(t: Text) -> Words {
-    with(t.refusal, [t.start as u64, t.length as u64, 0, 0])
+    let Text {
+        refusal,
+        start,
+        length,
+        record,
+    } = t;
+    with(refusal, [start as u64, length as u64, record as u64, 0])
 }
 
 fn number(n: Number) -> Words {
@@ -141,7 +149,8 @@ pub fn words(table: &[u8], question: Question) -> Words {
             Question::PostScript => text(gv_name_postscript(bytes, length)),
             Question::Version => {
                 let v = gv_name_version(bytes, length);
-                with(v.refusal, [u64::from(v.major), u64::from(v.minor), 0, 0])
+                let (major, minor) = (u64::from(v.major), u64::from(v.minor));
+                with(v.refusal, [major, minor, v.record as u64, 0])
             }
             Question::Os2Check(level) => bare(gv_os2_check(bytes, length, level)),
             Question::Field(level, n) => number(gv_os2_field(bytes, length, level, n)),

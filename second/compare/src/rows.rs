@@ -1,6 +1,6 @@
 //! The papers' rows on one table: document 01's "Examples to check against" and "Easy slips", each with the answer that stands
-//! there or that Ask 3 puts in its place, and rows of document 02's Asks 1 and 3, each with the answers that follow from its
-//! words.
+//! there or that Asks 3 and 4 put in its place, and rows of document 02's Asks 1, 3 and 4, each with the answers that follow from
+//! its words.
 
 use crate::ask::{Amount, Asker, Difference};
 use crate::make::Made;
@@ -27,7 +27,11 @@ impl Row {
     }
 }
 
-/// Asks everything of one row's table, after the answers that the papers give, and compares it with itself.
+/// Of a 'name' table of so many bytes not everything is asked.
+const LARGE: usize = 10_000;
+
+/// Asks everything of one row's table, after the answers that the papers give, and compares it with itself. Of a large table
+/// some keys are looked up.
 pub fn ask(asker: &mut Asker, row: &Row) -> Result<(), Difference> {
     for &(question, expected) in &row.answers {
         let words = asker.ask(&row.table, question)?;
@@ -43,8 +47,12 @@ pub fn ask(asker: &mut Asker, row: &Row) -> Result<(), Difference> {
     let mut numbers = Numbers::new(1);
     match row.made() {
         Made::Name(table) => {
-            asker.name(&table, Amount::Everything, &mut numbers)?;
-            asker.name_pair(&table, &table, Amount::Everything, &mut numbers)
+            let amount = match table.len() < LARGE {
+                true => Amount::Everything,
+                false => Amount::Some,
+            };
+            asker.name(&table, amount, &mut numbers)?;
+            asker.name_pair(&table, &table, amount, &mut numbers)
         }
         Made::Os2(table) => {
             asker.os2(&table, Amount::Everything, &mut numbers)?;
@@ -64,13 +72,13 @@ pub fn refused_at(number: u64, place: u64) -> Words {
     [number, 1, place, 0, 0, 0, 0]
 }
 
-/// A string's start and length, or a version's two figures.
-fn two(first: u64, second: u64) -> Words {
-    [0, 0, 0, first, second, 0, 0]
+/// A string's start and length, or a version's two figures, and the record's number.
+fn told(first: u64, second: u64, record: u64) -> Words {
+    [0, 0, 0, first, second, record, 0]
 }
 
 fn value(value: u64) -> Words {
-    two(1, value)
+    [0, 0, 0, 1, value, 0, 0]
 }
 
 /// The words of two of the rights.
@@ -132,7 +140,7 @@ fn postscript(text: &str) -> Vec<u8> {
     )
 }
 
-/// The rows of document 01 in its order, then those of document 02's Ask 1 and of its Ask 3.
+/// The rows of document 01 in its order, then those of document 02's Ask 1, of its Ask 3 and of its Ask 4.
 pub fn rows() -> Vec<Row> {
     let mut rows = Vec::new();
     let mut row = |words: &'static str, table: Vec<u8>, answers: Vec<(Question, Words)>| {
@@ -196,13 +204,13 @@ pub fn rows() -> Vec<Row> {
         (
             "`Version 1.70000 2.5`: 2 and 5",
             "Version 1.70000 2.5",
-            two(2, 5),
+            told(2, 5, 0),
         ),
         ("`Version 65535.1`: 25", "Version 65535.1", refused(25)),
         (
             "`Version 65534.1`: 65534 and 1",
             "Version 65534.1",
-            two(65_534, 1),
+            told(65_534, 1, 0),
         ),
         (
             "easy slip: 0.1 is not found inside `70000.1`",
@@ -226,7 +234,7 @@ pub fn rows() -> Vec<Row> {
         name(&[[1, 0, 0, 1, 1, 0], [1, 0, 0, 2, 2, 1]], b"abc"),
         vec![
             (Question::NameCheck, ACCEPTED),
-            (Question::Lookup([1, 0, 0, 2]), two(31, 2)),
+            (Question::Lookup([1, 0, 0, 2]), told(31, 2, 1)),
         ],
     );
     row(
@@ -237,7 +245,7 @@ pub fn rows() -> Vec<Row> {
     row(
         "a PostScript string of 63 characters: well formed",
         postscript(&"A".repeat(63)),
-        vec![(Question::PostScript, two(30, 63))],
+        vec![(Question::PostScript, told(30, 63, 0))],
     );
     row(
         "a PostScript string of 64 characters: 23",
@@ -245,17 +253,17 @@ pub fn rows() -> Vec<Row> {
         vec![(Question::PostScript, refused(23))],
     );
     row(
-        "the listing's table: PostScript name Ab, version refused 20",
+        "the listing's table: PostScript name Ab, by Ask 4 in record 0, version refused 20",
         name(
             &[[1, 0, 0, 6, 2, 0], [3, 1, 0x409, 6, 4, 2]],
             &[0x41, 0x62, 0, 0x41, 0, 0x62],
         ),
         vec![
             (Question::NameCheck, ACCEPTED),
-            (Question::PostScript, two(30, 2)),
+            (Question::PostScript, told(30, 2, 0)),
             (Question::Version, refused(20)),
-            (Question::Lookup([1, 0, 0, 6]), two(30, 2)),
-            (Question::Lookup([3, 1, 1033, 6]), two(32, 4)),
+            (Question::Lookup([1, 0, 0, 6]), told(30, 2, 0)),
+            (Question::Lookup([3, 1, 1033, 6]), told(32, 4, 1)),
         ],
     );
     row(
@@ -371,6 +379,7 @@ pub fn rows() -> Vec<Row> {
         let answers = asked.iter().map(|&question| (question, answer)).collect();
         row(words, table, answers);
     }
+    rows.extend(answer_rows());
     rows
 }
 
@@ -520,4 +529,179 @@ fn record_rows() -> Vec<(&'static str, Vec<u8>, Words)> {
             refused_at(16, 0),
         ),
     ]
+}
+
+/// Ask 4: "Lookup shall also give the record's number. PostScript and version answers carry the number of the record that they
+/// used (for a PostScript name, the platform 1 record)." Records are counted from 0, and a refusal gives no number.
+fn answer_rows() -> Vec<Row> {
+    let lookup = |p, e, l, n| Question::Lookup([p, e, l, n]);
+    let six = [
+        [0, 3, 0, 6, 2, 0],
+        [1, 0, 0, 5, 3, 2],
+        [1, 0, 0, 6, 2, 5],
+        [3, 1, 0x409, 5, 6, 7],
+        [3, 1, 0x409, 6, 4, 13],
+        [3, 1, 0x409, 7, 0, 17],
+    ];
+    let storage = b"\0C1.2Ab\x003\0.\x004\0A\0b";
+    // The same with two tags, before which the storage starts 10 bytes later.
+    let mut tagged = name(&six, storage);
+    tagged.splice(78..78, [0, 2, 0, 1, 0, 0, 0, 0, 0, 17]);
+    (tagged[1], tagged[5]) = (1, 88);
+    let all = |start: u64| {
+        vec![
+            (Question::NameCheck, ACCEPTED),
+            (Question::PostScript, told(start + 5, 2, 2)),
+            (Question::Version, told(3, 4, 3)),
+            (lookup(0, 3, 0, 6), told(start, 2, 0)),
+            (lookup(1, 0, 0, 5), told(start + 2, 3, 1)),
+            (lookup(1, 0, 0, 6), told(start + 5, 2, 2)),
+            (lookup(3, 1, 1033, 5), told(start + 7, 6, 3)),
+            (lookup(3, 1, 1033, 6), told(start + 13, 4, 4)),
+            (lookup(3, 1, 1033, 7), told(start + 17, 0, 5)),
+            (lookup(3, 1, 1033, 4), refused(20)),
+            (lookup(1, 0, 0, 7), refused(20)),
+            (lookup(3, 1, 1033, 65_536 + 6), refused(20)),
+        ]
+    };
+    let mut rows = Vec::new();
+    let mut row = |words, table, answers| {
+        rows.push(Row {
+            words,
+            table,
+            answers,
+        });
+    };
+    row(
+        "Ask 4: six records, the name in records 2 and 4, a version in records 1 and 3",
+        name(&six, storage),
+        all(78),
+    );
+    row("Ask 4: the same in format 1 with two tags", tagged, all(88));
+    row(
+        "Ask 4: the version in platform 1's record, record 2, beside others that do not count",
+        name(
+            &[
+                [0, 3, 0, 5, 3, 0],
+                [1, 0, 0, 4, 3, 0],
+                [1, 0, 0, 5, 3, 3],
+                [1, 0, 1, 5, 3, 0],
+                [3, 1, 0x407, 5, 6, 6],
+            ],
+            b"9.92.5\x007\0.\x007",
+        ),
+        vec![
+            (Question::Version, told(2, 5, 2)),
+            (Question::PostScript, refused(21)),
+        ],
+    );
+    row(
+        "Ask 4: the version in platform 3's record, record 1, and none of platform 1's",
+        name(
+            &[[1, 0, 0, 4, 3, 0], [3, 1, 0x409, 5, 6, 3]],
+            b"9.9\x002\0.\x005",
+        ),
+        vec![(Question::Version, told(2, 5, 1))],
+    );
+    row(
+        "Ask 4: the same string in three records",
+        name(
+            &[[1, 0, 0, 1, 2, 1], [1, 0, 0, 4, 2, 1], [1, 0, 0, 16, 2, 1]],
+            b".Ab",
+        ),
+        vec![
+            (lookup(1, 0, 0, 1), told(43, 2, 0)),
+            (lookup(1, 0, 0, 4), told(43, 2, 1)),
+            (lookup(1, 0, 0, 16), told(43, 2, 2)),
+        ],
+    );
+    row(
+        "Ask 4: strings that overlap, the name in record 1",
+        name(
+            &[
+                [0, 3, 0, 6, 2, 0],
+                [1, 0, 0, 6, 1, 1],
+                [3, 1, 0x409, 6, 2, 0],
+            ],
+            b"\0A",
+        ),
+        vec![
+            (Question::PostScript, told(43, 1, 1)),
+            (lookup(0, 3, 0, 6), told(42, 2, 0)),
+            (lookup(3, 1, 1033, 6), told(42, 2, 2)),
+        ],
+    );
+    row(
+        "Ask 4: keys that are one part away from the key before them",
+        name(
+            &[
+                [1, 0, 0, 5, 1, 0],
+                [1, 0, 0, 6, 1, 0],
+                [1, 0, 1, 6, 1, 0],
+                [1, 1, 1, 6, 1, 0],
+                [3, 1, 1, 6, 1, 0],
+            ],
+            b"x",
+        ),
+        vec![
+            (lookup(1, 0, 0, 5), told(66, 1, 0)),
+            (lookup(1, 0, 0, 6), told(66, 1, 1)),
+            (lookup(1, 0, 1, 6), told(66, 1, 2)),
+            (lookup(1, 1, 1, 6), told(66, 1, 3)),
+            (lookup(3, 1, 1, 6), told(66, 1, 4)),
+            (lookup(3, 1, 1, 5), refused(20)),
+            (Question::PostScript, refused(22)),
+            (Question::Version, refused(25)),
+        ],
+    );
+    // Refusals that are about records 1 and 2.
+    for (words, one, two, answer) in [
+        ("Ask 4: no record beside 23", "A b", "\0A\0b", refused(23)),
+        ("Ask 4: no record beside 24", "Ab", "\0A\0c", refused(24)),
+    ] {
+        let [length, other] = [one, two].map(|text| text.len() as u16);
+        let table = name(
+            &[
+                [0, 3, 0, 6, length, 0],
+                [1, 0, 0, 6, length, 0],
+                [3, 1, 0x409, 6, other, length],
+            ],
+            format!("{one}{two}").as_bytes(),
+        );
+        row(words, table, vec![(Question::PostScript, answer)]);
+    }
+    for (words, length) in [
+        (
+            "Ask 4: no record beside 25, and a number in platform 1's record",
+            4,
+        ),
+        ("Ask 4: the same for an odd length", 5),
+    ] {
+        let table = name(
+            &[
+                [0, 3, 0, 5, 3, 0],
+                [1, 0, 0, 5, 3, 0],
+                [3, 1, 0x409, 5, length, 3],
+            ],
+            b"1.2\x003\0.\0",
+        );
+        row(words, table, vec![(Question::Version, refused(25))]);
+    }
+    // 5,460 records, of which number i has the key (3, 1, 1033, i).
+    let most: Vec<_> = (0..5_460).map(|i| [3, 1, 1033, i, 1, i % 10]).collect();
+    row(
+        "Ask 4: 5,460 records",
+        name(&most, b"0123456789"),
+        vec![
+            (lookup(3, 1, 1033, 0), told(65_526, 1, 0)),
+            (lookup(3, 1, 1033, 255), told(65_531, 1, 255)),
+            (lookup(3, 1, 1033, 256), told(65_532, 1, 256)),
+            (lookup(3, 1, 1033, 2_733), told(65_529, 1, 2_733)),
+            (lookup(3, 1, 1033, 5_459), told(65_535, 1, 5_459)),
+            (lookup(3, 1, 1033, 5_460), refused(20)),
+            (Question::PostScript, refused(22)),
+            (Question::Version, refused(25)),
+        ],
+    );
+    rows
 }

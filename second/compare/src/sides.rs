@@ -85,13 +85,18 @@ pub mod by_second {
 
     /// The words that the second program's answer makes.
     pub fn words(table: &[u8], question: Question) -> Words {
-        let span = |span: name::Span| [span.start as u64, span.length as u64, 0, 0];
+        let text = |name::Text {
+                        start,
+                        length,
+                        record,
+                    }| [start as u64, length as u64, record as u64, 0];
         match question {
             Question::NameCheck => of(name::check(table), |()| [0; 4]),
-            Question::Lookup([p, e, l, n]) => of(name::lookup(table, p, e, l, n), span),
-            Question::PostScript => of(name::postscript(table), span),
+            Question::Lookup([p, e, l, n]) => of(name::lookup(table, p, e, l, n), text),
+            Question::PostScript => of(name::postscript(table), text),
             Question::Version => of(name::version(table), |version| {
-                [u64::from(version.major), u64::from(version.minor), 0, 0]
+                let (major, minor) = (u64::from(version.major), u64::from(version.minor));
+                [major, minor, version.record as u64, 0]
             }),
             Question::Os2Check(level) => of(os2::accept(level, table), |()| [0; 4]),
             Question::Field(level, n) => whole(os2::field(level, table, n)),
@@ -185,13 +190,18 @@ pub mod by_crate {
 
     /// The words that the crate's answer makes.
     pub fn words(table: &[u8], question: Question) -> Words {
-        let text = |text: name::Text| [text.start as u64, text.length as u64, 0, 0];
+        let text = |name::Text {
+                        start,
+                        length,
+                        record,
+                    }| [start as u64, length as u64, record as u64, 0];
         match question {
             Question::NameCheck => of(name::check(table), |()| [0; 4]),
             Question::Lookup([p, e, l, n]) => of(name::lookup(table, p, e, l, n), text),
             Question::PostScript => of(name::postscript(table), text),
             Question::Version => of(name::version(table), |version| {
-                [u64::from(version.major), u64::from(version.minor), 0, 0]
+                let (major, minor) = (u64::from(version.major), u64::from(version.minor));
+                [major, minor, version.record as u64, 0]
             }),
             Question::Os2Check(level) => of(os2::check(table, level), |()| [0; 4]),
             Question::Field(level, n) => {

@@ -28,7 +28,13 @@ pub const SWEEPS: [(&str, Sweep); 5] = [
     ("the writer's fields", writer),
 ];
 
-fn ask(asker: &mut Asker, sweep: &str, made: &Made, questions: &[Question]) -> Result<(), Found> {
+/// Asks the questions of a table.
+pub fn ask(
+    asker: &mut Asker,
+    sweep: &str,
+    made: &Made,
+    questions: &[Question],
+) -> Result<(), Found> {
     caught(|| {
         match made {
             Made::Name(table) => {
@@ -179,10 +185,10 @@ fn table_of(records: &[(Key, [u16; 2])], tags: Option<&[[u16; 2]]>, storage: u16
     table(&words, &b"2.51"[..usize::from(storage)])
 }
 
-type Key = [u16; 4];
+pub type Key = [u16; 4];
 
 /// Every question on a 'name' table, with lookups of some keys.
-fn name_questions(keys: &[Key]) -> Vec<Question> {
+pub fn name_questions(keys: &[Key]) -> Vec<Question> {
     let mut questions = vec![Question::NameCheck, Question::PostScript, Question::Version];
     questions.extend(keys.iter().map(|key| Question::Lookup(key.map(u32::from))));
     questions

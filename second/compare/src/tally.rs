@@ -2,7 +2,7 @@
 
 use std::fmt::Write;
 
-use crate::met::{self, Edge, Met, Thing};
+use crate::met::{self, Edge, Met, Thing, FOUND_NUMBERS, SPOTS, USED};
 use crate::question::{Function, Words, FUNCTIONS};
 
 /// One more than the highest refusal number.
@@ -296,13 +296,45 @@ impl Tally {
             self.met.times(Thing::Together(15, 17)) + self.met.times(Thing::Together(15, 19)),
             self.met.times(Thing::Together(27, 17)) + self.met.times(Thing::Together(27, 19))
         );
+        let both = |thing: &dyn Fn(u16) -> Thing| -> u64 {
+            [0, 1]
+                .map(|format| self.met.times(thing(format)))
+                .iter()
+                .sum()
+        };
+        let spots = SPOTS.map(|spot| both(&|format| Thing::FoundAt(format, spot)));
+        let found = FOUND_NUMBERS.map(|number| both(&|format| Thing::FoundNumber(format, number)));
+        let _ = writeln!(
+            lines,
+            "  records told by lookups: the only one {}, the first {}, between {}, the last {}; record 255 {}, 256 {}, 5,459 {}; with the string of a record before it {}, behind it {}",
+            spots[0],
+            spots[1],
+            spots[2],
+            spots[3],
+            found[0],
+            found[1],
+            found[2],
+            both(&|format| Thing::SameString(format, false)),
+            both(&|format| Thing::SameString(format, true))
+        );
+        let used = USED.map(|used| {
+            [false, true].map(|others| both(&|format| Thing::VersionFrom(format, used, others)))
+        });
+        let _ = writeln!(
+            lines,
+            "  records told by version numbers: platform 3's beside platform 1's {}, platform 3's alone {}, platform 1's alone {}; of the last two, record 0 {}",
+            used[0].iter().sum::<u64>(),
+            used[1].iter().sum::<u64>(),
+            used[2].iter().sum::<u64>(),
+            used[1][0] + used[2][0]
+        );
         let rarest = met::all()
             .into_iter()
             .min_by_key(|&thing| self.met.times(thing));
         if let Some(thing) = rarest {
             let _ = writeln!(
                 lines,
-                "  of {} things of comparisons and of records that are to be met, the rarest was met {} times: {thing}",
+                "  of {} things of comparisons, of records and of answers that are to be met, the rarest was met {} times: {thing}",
                 met::all().len(),
                 self.met.times(thing)
             );

@@ -7,13 +7,16 @@
 //! - `= name` with a table in hexadecimal digits, or `= name largest`: 5,460 records, of which number
 //!   i has the key (3, 1, 1033, i), length 1 and offset i modulo 10, storage start 65,526 and ten zero
 //!   bytes of storage. Its questions are `check`, `postscript`, `version`, and `lookup` with platform,
-//!   encoding, language and name.
+//!   encoding, language and name. A string that is found is `start 30 length 2 record 0`, with the
+//!   number of its record; a version number is its two figures and the number of the record that was
+//!   used, `2 5 record 1`.
 //! - `= os2` with a length: zero bytes but weight 400, width 5, and then pairs of an offset and the
 //!   16-bit number that stands there. Its questions are document 01's, as `field 39 at level 5`, and
 //!   `check at level 5`. A field's or a bit's value is decimal, or `negative`; a float is its bits.
 //!
 //! With the argument `versions` each line is a version text, and is printed with what it reads; behind
-//! them stands the text of 65,535 sevens. So are the version rows of the program `leaf_rows` made.
+//! them stands the text of 65,535 sevens. Such a text has no record, and its number is the two figures
+//! alone. So are the version rows of the program `leaf_rows` made.
 
 #![forbid(unsafe_code)]
 
@@ -55,7 +58,7 @@ fn version_text(text: &str) -> String {
     let characters: Vec<u16> = text.bytes().map(u16::from).collect();
     match name::version_in(&characters) {
         None => "refused 25".to_string(),
-        Some(version) => format!("{} {}", version.major, version.minor),
+        Some(figures) => format!("{} {}", figures.major, figures.minor),
     }
 }
 
@@ -128,13 +131,24 @@ fn refused(refusal: Refusal) -> String {
 }
 
 fn on_name(bytes: &[u8], line: &str) -> Result<String, Refusal> {
-    let place = |found: name::Span| format!("start {} length {}", found.start, found.length);
+    let place = |found: name::Text| {
+        let name::Text {
+            start,
+            length,
+            record,
+        } = found;
+        format!("start {start} length {length} record {record}")
+    };
     match line {
         "check" => name::check(bytes).map(|()| "accepted".to_string()),
         "postscript" => name::postscript(bytes).map(place),
         "version" => {
-            let version = name::version(bytes)?;
-            Ok(format!("{} {}", version.major, version.minor))
+            let name::Version {
+                major,
+                minor,
+                record,
+            } = name::version(bytes)?;
+            Ok(format!("{major} {minor} record {record}"))
         }
         _ => {
             let key = decimals(line.strip_prefix("lookup ").expect("a question on 'name'"));

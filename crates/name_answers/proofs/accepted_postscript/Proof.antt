@@ -10,7 +10,8 @@ use Rattle.name_layout.specs.Keys.{keyFrom}
 use Rattle.name.specs.Acceptance.{faults}
 use Rattle.name_search.specs.Searches.{recordWith, foundOf}
 use Rattle.name_search.proofs.Finds.{find-has}
-use Rattle.name_answers.proofs.NameLaws.{name-both, name-first, name-second, name-neither}
+use Rattle.name_answers.specs.Names.{fromBoth}
+use Rattle.name_answers.proofs.NameLaws.{name-from}
 use Rattle.name_answers.proofs.accepted_postscript.Statement.{statement}
 use Rattle.name_answers.proofs.accepted_postscript.Tie as tie
 
@@ -46,18 +47,22 @@ from-records-requires c κs =
     record { accepted = accepted (k .before .before .before); first = find-has _ _ (first-at k) .inside; second = find-has _ _ (second-at c) .inside }
 
 returns : tie.Need-returns
+unfolding fromBoth
 returns c =
     let k = c .before .before .before .before in
-    c .from-records .ensures ∙ sym (name-both _ (accepted (k .before .before .before)) (first-at k) (second-at (c .before)))
+    c .from-records .ensures ∙ sym (name-from _ (accepted (k .before .before .before)) (first-at k) (second-at (c .before)))
 
 returns-2 : tie.Need-returns-2
-returns-2 c = let k = c .before .before in sym (name-first _ (accepted (k .before .before .before)) (first-at k) (second-none c))
+unfolding fromBoth
+returns-2 c = let k = c .before .before in sym (name-from _ (accepted (k .before .before .before)) (first-at k) (second-none c))
 
 returns-3 : tie.Need-returns-3
-returns-3 c = let k = c .before .before in sym (name-second _ (accepted (k .before .before)) (first-none k) (second-alone c))
+unfolding fromBoth
+returns-3 c = let k = c .before .before in sym (name-from _ (accepted (k .before .before)) (first-none k) (second-alone c))
 
 returns-4 : tie.Need-returns-4
-returns-4 c = let k = c .before .before in sym (name-neither _ (accepted (k .before .before)) (first-none k) (neither c))
+unfolding fromBoth
+returns-4 c = let k = c .before .before in sym (name-from _ (accepted (k .before .before)) (first-none k) (neither c))
 
 pub accepted-postscript-spec : {M : Type 1} → statement M
 accepted-postscript-spec =

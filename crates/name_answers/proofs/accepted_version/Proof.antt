@@ -1,7 +1,7 @@
 -- Each search settles one case of the definition.
 -- Assumes nothing.
 use Prim.Native.Nat.{ℕ}
-use mathlib.Core.Path.{_≡_, sym, _∙_, ap}
+use mathlib.Core.Path.{_≡_, refl, sym, _∙_, ap}
 use mathlib.Core.Option.{none, some}
 use mathlib.Core.List.{List}
 use denote.Ref.{now}
@@ -9,7 +9,8 @@ use borrow.Author.Needs.{needs}
 use Rattle.name_layout.specs.Keys.{keyFrom}
 use Rattle.name_search.specs.Searches.{recordWith, foundOf}
 use Rattle.name_search.proofs.Finds.{find-has}
-use Rattle.name_answers.proofs.VersionLaws.{version-wide, version-narrow, version-neither}
+use Rattle.name_answers.specs.Versions.{fromRecords}
+use Rattle.name_answers.proofs.VersionLaws.{version-from}
 use Rattle.name_answers.proofs.accepted_version.Statement.{statement}
 use Rattle.name_answers.proofs.accepted_version.Tie as tie
 
@@ -31,20 +32,23 @@ narrow-none : (c : tie.After-enum-told2) → recordWith (table (c .before .befor
 narrow-none c = sym (c .before .before .find2 .ensures) ∙ ap foundOf (c .enum-told2 .given .1)
 
 returns : tie.Need-returns
+unfolding fromRecords
 returns c =
     let k = c .before in
-    c .version-at .ensures ∙ sym (version-wide _ (k .before .before .before .before .before .pre) (wide-at k))
+    c .version-at .ensures ∙ sym (version-from _ (k .before .before .before .before .before .pre) (wide-at k) refl)
 
 returns-2 : tie.Need-returns-2
+unfolding fromRecords
 returns-2 c =
     let k = c .before in
     let j = k .before .before .before .before in
-    c .version-at2 .ensures ∙ sym (version-narrow _ (j .before .before .before .before .pre) (wide-none j) (narrow-at k))
+    c .version-at2 .ensures ∙ sym (version-from _ (j .before .before .before .before .pre) (wide-none j) (narrow-at k))
 
 returns-3 : tie.Need-returns-3
+unfolding fromRecords
 returns-3 c =
     let j = c .before .before .before in
-    sym (version-neither _ (j .before .before .before .before .pre) (wide-none j) (narrow-none c))
+    sym (version-from _ (j .before .before .before .before .pre) (wide-none j) (narrow-none c))
 
 pub accepted-version-spec : {M : Type 1} → statement M
 accepted-version-spec =

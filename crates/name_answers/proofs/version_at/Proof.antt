@@ -10,6 +10,7 @@ use Rattle.name_layout.specs.Layout.{bytesOf}
 use Rattle.name.proofs.Acceptances.{record-inside}
 use Rattle.name_search.proofs.Finds.{text-inside, part-is}
 use Rattle.version_text.specs.Versions.{versionIn, said}
+use Rattle.name_answers.specs.Versions.{readFrom}
 use Rattle.name_answers.proofs.version_at.Statement.{statement}
 use Rattle.name_answers.proofs.version_at.Tie as tie
 
@@ -26,10 +27,12 @@ fits c =
     text-inside _ _ (c .text-of .ensures) (p .0) (p .1)
 
 returns : tie.Need-returns
-returns c = sym (ap said (c .before .major .given .1)) ∙ read (c .before .before .before)
+unfolding readFrom
+returns c = ap (readFrom _) (sym (ap said (c .before .major .given .1)) ∙ read (c .before .before .before))
 
 returns-2 : tie.Need-returns-2
-returns-2 c = sym (ap said (c .enum-told .given .1)) ∙ read (c .before .before)
+unfolding readFrom
+returns-2 c = ap (readFrom _) (sym (ap said (c .enum-told .given .1)) ∙ read (c .before .before))
 
 pub version-at-spec : {M : Type 1} → statement M
 version-at-spec =

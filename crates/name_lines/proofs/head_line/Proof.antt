@@ -3,6 +3,7 @@
 use mathlib.Core.Path.{_∙_}
 use native.Mathlib.Omega.{arith}
 use Rattle.name.proofs.Acceptances.{no-fault, accepted-framed}
+use Rattle.name_lines.specs.Lines.{headLine}
 use borrow.Author.Needs.{needs}
 use Rattle.name_lines.proofs.head_line.Statement.{statement}
 use Rattle.name_lines.proofs.head_line.Tie as tie
@@ -16,13 +17,16 @@ record-count-requires c κs = accepted-framed _ (c .before .before .pre) .front
 storage-start-requires : tie.Need-storage-start-requires
 storage-start-requires c κs = accepted-framed _ (c .before .before .before .pre) .front
 
-sub-head-line : tie.Need-sub-head-line
-sub-head-line c = let placed = no-fault _ .0 (c .before .before .before .before .pre) .laid .placed in omega arith
+sub-storage : tie.Need-sub-storage
+sub-storage c = let placed = no-fault _ .0 (c .before .before .before .before .pre) .laid .placed in omega arith
 
 returns : tie.Need-returns
+unfolding headLine
 returns c =
-    let d = c .before .before in
-    c .head-line .ensures ∙ rw (d .before .format-number .ensures, d .record-count .ensures, c .before .storage-start .ensures)
+    let storage = c .before .before .before .before in
+    let records = storage .before in
+    c .three-numbered-line .ensures
+    ∙ rw (records .before .format-number .ensures, records .record-count .ensures, storage .storage-start .ensures)
 
 pub head-line-spec : {M : Type 1} → statement M
 head-line-spec =
@@ -34,6 +38,9 @@ head-line-spec =
     (λ c. search needs)
     storage-start-requires
     (λ c. search needs)
-    sub-head-line
+    sub-storage
+    (λ c. search needs)
+    (λ c. search needs)
+    (λ c. search needs)
     (λ c κs. search needs)
     returns)

@@ -9,8 +9,12 @@ use Rattle.name_lines.proofs.plain.postscript_line.Tie as tie
 returns : tie.Need-returns
 unfolding postscriptLine
 returns c =
-    let name = c .before .before .before .before .before in
-    put-both (put-both (name .before .before .before .put .ensures) (name .put2 .ensures)) (c .before .put3 .ensures) .holds
+    let number = c .before .before .before .before .before in
+    let name = number .before .before .before .before in
+    put-both
+    (put-both (put-both (name .before .before .before .put .ensures) (name .put2 .ensures)) (number .put-numbered .ensures))
+    (c .before .put3 .ensures)
+    .holds
 
 pub postscript-line-spec : {M : Type 1} → statement M
 postscript-line-spec =
@@ -19,6 +23,9 @@ postscript-line-spec =
     (λ c. search needs)
     (λ c. search needs)
     (λ c κs. search needs)
+    (λ c. search needs)
+    (λ c κs. search needs)
+    (λ c. search needs)
     (λ c. search needs)
     (λ c κs. search needs)
     (λ c. search needs)
