@@ -89,19 +89,19 @@ static void print_name(const uint8_t *table, size_t length)
     text = gv_name_postscript(table, length);
     if (!refused(text.refusal)) {
         fwrite(table + text.start, 1, text.length, stdout);
-        printf(", record %lu\n", (unsigned long)text.record);
+        printf(" (record %lu)\n", (unsigned long)text.record);
     }
 
     printf("  version number: ");
     version = gv_name_version(table, length);
     if (!refused(version.refusal))
-        printf("%lu and %lu, record %lu\n", (unsigned long)version.major, (unsigned long)version.minor,
+        printf("%lu and %lu (record %lu)\n", (unsigned long)version.major, (unsigned long)version.minor,
                (unsigned long)version.record);
 
     printf("  family name, Windows, US English: ");
     text = gv_name_lookup(table, length, 3, 1, 0x409, 1);
     if (!refused(text.refusal))
-        printf("%lu bytes from byte %lu, record %lu\n", (unsigned long)text.length, (unsigned long)text.start,
+        printf("%lu bytes from byte %lu (record %lu)\n", (unsigned long)text.length, (unsigned long)text.start,
                (unsigned long)text.record);
 }
 

@@ -118,13 +118,13 @@ gv_refusal gv_name_check(const uint8_t *table, size_t length);
 gv_text gv_name_lookup(const uint8_t *table, size_t length, uint32_t platform, uint32_t encoding, uint32_t language,
                        uint32_t name);
 
-/* The PostScript name, as the string of the record (1, 0, 0, 6), whose number is answered too: one byte a character, 1 to 63
-   characters with codes 33 to 126 without [ ] ( ) { } < > / %. The record (3, 1, 0x409, 6) must hold the same name, two bytes
-   a character. Refusals as gv_name_check, then 21, 22, 23, 24, in this order. */
+/* The PostScript name, as the string of the record (1, 0, 0, 6), and that record's number. It has one byte a character, and 1
+   to 63 characters with codes 33 to 126 without [ ] ( ) { } < > / %. The record (3, 1, 0x409, 6) must hold the same name, two
+   bytes a character. Refusals as gv_name_check, then 21, 22, 23, 24, in this order. */
 gv_text gv_name_postscript(const uint8_t *table, size_t length);
 
-/* The version number, from the string of the record (3, 1, 0x409, 5), or of (1, 0, 0, 5) where there is no such record; the
-   number of the one that was used is answered too. It is the first place in the string with digits, a period, digits: both
+/* The version number in the string of the record (3, 1, 0x409, 5), or of (1, 0, 0, 5) where there is no such record, and the
+   number of the record that was used. A version number is the first place in the string with digits, a period, digits: both
    groups as long as they go and below 65535, the first not behind a digit. The string of (3, 1, 0x409, 5) has two bytes a
    character; an odd length gives 25. Refusals as gv_name_check, then 20, 25. */
 gv_version gv_name_version(const uint8_t *table, size_t length);

@@ -165,11 +165,11 @@ pub fn postscript(table: &[u8]) -> Result<Text, Refusal> {
     text(raw::name_postscript(table))
 }
 
-/// The version number in the version string, the string of (3, 1, 0x409, 5), or of (1, 0, 0, 5) where that record is not
-/// there, and the number of the record that was used.
+/// The version number in the version string, and the number of the record that was used.
 ///
-/// A number is digits, a period, digits, each group as long as it goes and below 65,535. The first place from the left that
-/// yields a number wins.
+/// The version string is that of (3, 1, 0x409, 5), or of (1, 0, 0, 5) where that record is not there. A version number is
+/// digits, a period, digits, each group as long as it goes and below 65,535. The first place from the left that yields one
+/// wins.
 ///
 /// # Errors
 ///

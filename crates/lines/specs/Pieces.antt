@@ -8,9 +8,9 @@ use lib.ListN.{take}
 abbrev pub lineRoom : ℕ
 lineRoom = 160
 
--- the most bytes of a text before a number, so that a line holds two of them, each with its number
+-- the most bytes of a text before a number, so that a line holds three of them, each with its number
 abbrev pub labelRoom : ℕ
-labelRoom = 40
+labelRoom = 33
 
 -- a piece of at most so many bytes was put behind the first `at` bytes of `old`: where it ends, and what stands before that end
 pub record Put (old : List ℕ) (at : ℕ) (new : List ℕ) (end most : ℕ) (piece : List ℕ) : Type 0 where

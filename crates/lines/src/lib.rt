@@ -113,6 +113,26 @@ fn two_numbered_line(text: &[u8], n: u64, other: &[u8], m: u64) -> Line
     Line { bytes, len }
 }
 
+// A line of three short texts, each with a number behind it.
+pub fn three_numbered_line(
+    first: &[u8],
+    i: u64,
+    second: &[u8],
+    j: u64,
+    third: &[u8],
+    k: u64,
+) -> Line
+    requires { ⌜ (length (now first) ≤ labelRoom) × (length (now second) ≤ labelRoom) × (length (now third) ≤ labelRoom) ⌝ }
+    ensures { λ r. ⌜ lineOf r ≡ now (first .entry) ++ decimal i ++ (now (second .entry) ++ decimal j) ++ (now (third .entry) ++ decimal k) ++ codes "\n" ⌝ }
+{
+    let mut bytes = [0u8; LINE_ROOM];
+    let first_end = put_numbered(&mut bytes, 0, first, i);
+    let second_end = put_numbered(&mut bytes, first_end, second, j);
+    let third_end = put_numbered(&mut bytes, second_end, third, k);
+    let len = put(&mut bytes, third_end, b"\n");
+    Line { bytes, len }
+}
+
 // Puts the digits of a number at the end of as many bytes as any has, and answers where they start.
 fn spell(digits: &mut [u8], n: u64) -> usize
     requires { ⌜ length (now digits) ≡ mostDigits ⌝ }

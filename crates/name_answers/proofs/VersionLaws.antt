@@ -1,7 +1,7 @@
 -- The definition of the version question gives what document 01's propositions say: each way to an outcome is one of them, and leads back to it.
 -- Assumes nothing.
 use Prim.Native.Nat.{ℕ}
-use mathlib.Core.Path.{_≡_, refl, sym, _∙_, subst}
+use mathlib.Core.Path.{_≡_, refl, sym, _∙_, ap, subst}
 use mathlib.Core.Bool.{Bool, true, false}
 use mathlib.Core.Option.{Option, none, some}
 use mathlib.Core.List.{List}
@@ -43,14 +43,19 @@ module _ (t : List ℕ) where
   unfolding versionOf
   version-from a d e = not-refused _ a ∙ λ k. fromRecords t (d k) (e k)
 
--- what is read in record i's string is what the string has, with i
+-- ---- what is read in record i's string is what the string has, with i
+
+-- the answer, and zeros for a refusal
+reading : Outcome Reading → Reading
+reading (answered v) = v
+reading (refused n c) = record { major = 0; minor = 0; «record» = 0 }
 
 read-answered : (i : ℕ) (o : Outcome Figures) (a b n : ℕ) →
     (readFrom i o ≡ answered (record { major = a; minor = b; «record» = n })) ↔ ((o ≡ answered (record { major = a; minor = b })) × (i ≡ n))
-unfolding readFrom
+unfolding readFrom reading
 read-answered i (answered f) a b n = (
   (λ e.
-      let v : _≡_ {A = Reading} (record { major = f .major; minor = f .minor; «record» = i }) (record { major = a; minor = b; «record» = n }) = cc in
+      let v : _≡_ {A = Reading} (record { major = f .major; minor = f .minor; «record» = i }) (record { major = a; minor = b; «record» = n }) = ap reading e in
       (λ p. answered (record { major = v p .major; minor = v p .minor }), λ p. v p .«record»)),
   λ (e, q).
       let v : f ≡ record { major = a; minor = b } = cc in

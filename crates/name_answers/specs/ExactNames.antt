@@ -68,7 +68,7 @@ NotFormed t = WithBoth t (λ i j. Formed t i j → ⊥)
 abbrev pub Unlike : List ℕ → Type 0
 Unlike t = WithBoth t (λ i j. Formed t i j × (Same t i j → ⊥))
 
--- a reader answers a name and each refusal exactly when document 01 does
+-- a reader answers a name, with the record that it used, and each refusal exactly when documents 01 and 02 do
 pub record PostscriptRight (read : List ℕ → Outcome Text) : Type 0 where
   pub passesOn : (t : List ℕ) (r : Refusal) → Refused t r → read t ≡ refusing r
   pub named : (t : List ℕ) → Bytes t → (x : Text) → (read t ≡ answered x) ↔ Named t x

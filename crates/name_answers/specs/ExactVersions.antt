@@ -36,7 +36,7 @@ pub record WithString (t : List ℕ) (i : ℕ) (P : Bool → List ℕ → Type 0
   pub chosen : Chosen t wide i
   pub holds : P wide (bytesOf t i)
 
--- in record i's string the number a and b stands at the first start that qualifies, and the length of a two-byte string isn't odd
+-- record i is read, and in its string the number a and b stands at the first start that qualifies; the length of a two-byte string isn't odd
 abbrev pub HasNumber : List ℕ → ℕ → ℕ → ℕ → Type 0
 HasNumber t a b i = WithString t i (λ wide bytes. (Odd wide bytes → ⊥) × First (characters wide bytes) a b)
 
@@ -48,7 +48,7 @@ NoVersion t = Acceptable t × None (Wide t) × None (Narrow t)
 abbrev pub LacksNumber : List ℕ → Type 0
 LacksNumber t = Some (λ i. WithString t i (λ wide bytes. Odd wide bytes ⊎ ((j a b : ℕ) → Qualifies (characters wide bytes) j a b → ⊥)))
 
--- a reader answers a number, with the number of the record that it used, and each refusal exactly when document 01 does
+-- a reader answers a number, with the record that it used, and each refusal exactly when documents 01 and 02 do
 pub record VersionRight (read : List ℕ → Outcome Reading) : Type 0 where
   pub passesOn : (t : List ℕ) (r : Refusal) → Refused t r → read t ≡ refusing r
   pub number : (t : List ℕ) → Bytes t → (a b i : ℕ) → (read t ≡ answered (record { major = a; minor = b; «record» = i })) ↔ HasNumber t a b i

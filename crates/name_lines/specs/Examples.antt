@@ -1,4 +1,4 @@
--- Document 01, "it writes": its tables and what is listed of each.
+-- Document 01, "it writes", and document 02, Ask 4: tables, what is listed of each, and lines by themselves.
 use Prim.Native.Nat.{ℕ}
 use mathlib.Core.Option.{none}
 use mathlib.Core.List.{List, [], _∷_, map}
@@ -38,7 +38,8 @@ listings =
     ∷ codes "refused 11\n"
     ∷ []
 
--- "A version found reads `version 2 5`", with the record used behind it, "a PostScript refusal `postscript refused 21`", and a version's refusal reads alike
+-- "A version found reads `version 2 5`, a PostScript refusal `postscript refused 21`", a PostScript name and a version's refusal alike; Ask 4's number behind
+-- what is found
 abbrev pub otherLines : List (List ℕ)
 otherLines =
     versionText (answered (record { major = 65534; minor = 5; «record» = 5459 }))

@@ -5,10 +5,6 @@ use Rattle.characters.specs.Texts.{codes}
 use Rattle.lines.specs.Numerals.{mostDigits, decimal}
 use Rattle.lines.specs.Lines.{numbered}
 
--- the most bytes of a text before a number, so that a line holds three of them, each with its number
-abbrev pub shortRoom : ℕ
-shortRoom = 33
-
 -- "the first line ends with the storage's length"
 unfoldable pub headLine : ℕ → ℕ → ℕ → List ℕ
 headLine format records storage =
@@ -39,7 +35,7 @@ postscriptLine name i = codes "postscript " ++ name ++ ofRecord i ++ codes "\n"
 abbrev pub postscriptRefused : ℕ → List ℕ
 postscriptRefused number = numbered "postscript refused " number ++ codes "\n"
 
--- "A version found reads `version 2 5`"
+-- "A version found reads `version 2 5`", and then its record
 unfoldable pub versionLine : ℕ → ℕ → ℕ → List ℕ
 versionLine major minor i = numbered "version " major ++ numbered " " minor ++ ofRecord i ++ codes "\n"
 

@@ -13,13 +13,13 @@ ghost use Rattle.name_answers.specs.Versions.{versionOf};
 ghost use Rattle.name_lines.specs.Listings.{headText, recordText, postscriptText, versionText};
 use lines::Line;
 use lines::numbered_line;
+use lines::three_numbered_line;
 use name_answers::PostscriptAnswer;
 use name_answers::VersionAnswer;
 
 mod plain;
 
 pub use plain::put_key;
-use plain::three_numbered_line;
 
 // The first line of an accepted table.
 pub fn head_line(table: &[u8]) -> Line

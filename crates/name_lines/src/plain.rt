@@ -1,37 +1,14 @@
 // The lines of a 'name' table's listing, each from plain numbers.
 ghost use Prim.Native.Nat.{_+_, _≤_};
 ghost use mathlib.Core.Path.{_≡_};
-ghost use mathlib.Core.List.{_++_};
 ghost use lib.ListN.{length};
-ghost use Rattle.characters.specs.Texts.{codes};
-ghost use Rattle.lines.specs.Numerals.{decimal};
 ghost use Rattle.lines.specs.Pieces.{Put};
 ghost use Rattle.lines.specs.Lines.{lineOf};
-ghost use Rattle.name_lines.specs.Lines.{shortRoom, keyRoom, keyParts, recordLine, postscriptLine};
+ghost use Rattle.name_lines.specs.Lines.{keyRoom, keyParts, recordLine, postscriptLine};
 use lines::LINE_ROOM;
 use lines::Line;
 use lines::put;
 use lines::put_numbered;
-
-// A line of three short texts, each with a number behind it.
-pub fn three_numbered_line(
-    first: &[u8],
-    i: u64,
-    second: &[u8],
-    j: u64,
-    third: &[u8],
-    k: u64,
-) -> Line
-    requires { ⌜ (length (now first) ≤ shortRoom) × (length (now second) ≤ shortRoom) × (length (now third) ≤ shortRoom) ⌝ }
-    ensures { λ r. ⌜ lineOf r ≡ now (first .entry) ++ decimal i ++ (now (second .entry) ++ decimal j) ++ (now (third .entry) ++ decimal k) ++ codes "\n" ⌝ }
-{
-    let mut bytes = [0u8; LINE_ROOM];
-    let first_end = put_numbered(&mut bytes, 0, first, i);
-    let second_end = put_numbered(&mut bytes, first_end, second, j);
-    let third_end = put_numbered(&mut bytes, second_end, third, k);
-    let len = put(&mut bytes, third_end, b"\n");
-    Line { bytes, len }
-}
 
 // The line of record i.
 pub fn record_line(

@@ -18,7 +18,7 @@ use Rattle.name_search.specs.declared.Text.{Text}
 use Rattle.name_search.specs.Searches.{HasKey, recordWith, StringOf, textOf}
 use Rattle.name_search.proofs.Finds.{find-has, find-at, find-none, text-is, has-bytes}
 use Rattle.name_lookup.specs.Answers.{lookupOf}
-use Rattle.name_lookup.specs.Exactly.{FoundExactlyWhen, AtMostOne, MissingExactlyWhen, LookupRight, GivesItsBytes}
+use Rattle.name_lookup.specs.Exactly.{FoundExactlyWhen, MissingExactlyWhen, LookupRight, GivesItsBytes}
 
 pub found-exactly-when : FoundExactlyWhen lookupOf
 unfolding lookupOf foundOr
@@ -34,11 +34,6 @@ found-exactly-when t b k x = (
         → (i : ℕ) × HasKey t k i × StringOf t i x
     search-found none f e = let z : _≡_ {A = ℕ} 0 1 = cc in absurd (omega arith)
     search-found (some i) f e = (i, find-has t k f, text-is t i x .0 cc)
-
-pub at-most-one : AtMostOne
-at-most-one t b p k i j h g =
-    let a = acceptable t .1 p in
-    let e : some i ≡ some j = sym (find-at t k b a h) ∙ find-at t k b a g in cc
 
 pub missing-exactly-when : MissingExactlyWhen lookupOf
 unfolding lookupOf foundOr

@@ -18,10 +18,6 @@ FoundExactlyWhen lookup =
     (t : List ℕ) → Bytes t → (k : Key) (x : Text) →
     (lookup t k ≡ answered x) ↔ (Acceptable t × ((i : ℕ) × HasKey t k i × StringOf t i x))
 
--- there is at most one such record, so what is answered is settled
-abbrev pub AtMostOne : Type 0
-AtMostOne = (t : List ℕ) → Bytes t → Acceptable t → (k : Key) (i j : ℕ) → HasKey t k i → HasKey t k j → i ≡ j
-
 -- it answers 20 exactly when the table is accepted and no record has them
 abbrev pub MissingExactlyWhen : (List ℕ → Key → Outcome Text) → Type 0
 MissingExactlyWhen lookup =

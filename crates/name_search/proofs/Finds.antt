@@ -19,8 +19,9 @@ use Rattle.name_layout.proofs.Keys.{Small, key-small, same-is, same-packed}
 use Rattle.name.specs.Acceptable.{Acceptable}
 use Rattle.name.specs.Acceptance.{faults}
 use Rattle.name.proofs.Acceptances.{keys-rise, string-inside}
+use Rattle.name.proofs.Theorems.{acceptable}
 use Rattle.name_search.specs.declared.Text.{Text}
-use Rattle.name_search.specs.Searches.{HasKey, recordWith, beyond, recordNumbered, StringOf, HasBytes, textOf}
+use Rattle.name_search.specs.Searches.{HasKey, AtMostOne, recordWith, beyond, recordNumbered, StringOf, HasBytes, textOf}
 use Rattle.name_search.proofs.Halvings.{Rising, rising}
 
 -- the keys of an accepted table rise
@@ -85,6 +86,11 @@ module _ (t : List ℕ) (k : Key) where
     -- a part above 65,535 is in no record
     pub find-beyond : beyond k ≡ true → recordWith t k ≡ none
     find-beyond e = find-none .1 (λ i h. false≢true (sym (not-beyond k .1 (rw (h .has) at (key-small t b i))) ∙ e))
+
+pub at-most-one : AtMostOne
+at-most-one t b p k i j h g =
+    let a = acceptable t .1 p in
+    let e : some i ≡ some j = sym (find-at t k b a h) ∙ find-at t k b a g in cc
 
 -- ---- a record's string
 

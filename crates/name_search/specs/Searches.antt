@@ -1,4 +1,4 @@
--- Which record of a table has a key, as a search and as a proposition; and likewise the string of a record.
+-- Which record of a table has a key, as a search and as a proposition; and the string of a record, as a value and as a proposition.
 use Prim.Native.Nat.{ℕ, _+_, _≤_, _<_}
 use mathlib.Core.Path.{_≡_}
 use mathlib.Core.Bool.{Bool, _||_}
@@ -6,9 +6,11 @@ use mathlib.Core.Option.{Option, none, some}
 use mathlib.Core.List.{List}
 use lib.Dec.{ltb, eqb}
 use lib.ListN.{length, take, drop}
+use Rattle.bigendian.specs.Numbers.{Bytes}
 use Rattle.outcomes.specs.Firsts.{when, firstOf}
 use Rattle.name_layout.specs.Layout.{count, storage, textAt, stringStart, stringLength, bytesOf}
 use Rattle.name_layout.specs.Keys.{Key, keyOf, same, packed}
+use Rattle.name.specs.Acceptable.{Acceptable}
 use Rattle.name_search.specs.declared.Found.{Found}
 use Rattle.name_search.specs.declared.Found.the-variants.{Record, Nothing}
 use Rattle.name_search.specs.declared.Text.{Text}
@@ -17,6 +19,10 @@ use Rattle.name_search.specs.declared.Text.{Text}
 pub record HasKey (t : List ℕ) (k : Key) (i : ℕ) : Type 0 where
   pub inside : i < count t
   pub has : keyOf t i ≡ k
+
+-- there is at most one such record in an accepted table, so which one is answered is settled
+abbrev pub AtMostOne : Type 0
+AtMostOne = (t : List ℕ) → Bytes t → Acceptable t → (k : Key) (i j : ℕ) → HasKey t k i → HasKey t k j → i ≡ j
 
 -- the record that has the key, if there is one
 unfoldable pub recordWith : List ℕ → Key → Option ℕ
@@ -40,7 +46,7 @@ pub record StringOf (t : List ℕ) (i : ℕ) (x : Text) : Type 0 where
   pub len : x .len ≡ stringLength t (textAt i)
   pub number : x .«record» ≡ i
 
--- what it points to: from the start on, as many bytes as the length, they lie within storage and are the string of the record of its number
+-- as many bytes as its length, from its start on, lie within storage and are the string of the record of its number
 abbrev pub HasBytes : List ℕ → Text → Type 0
 HasBytes t x = (storage t ≤ x .start) × (x .start + x .len ≤ length t) × (take (x .len) (drop (x .start) t) ≡ bytesOf t (x .«record»))
 

@@ -2,14 +2,13 @@
 -- Assumes nothing.
 use Prim.Native.Nat.{ℕ}
 use mathlib.Core.Path.{_≡_, refl}
-use mathlib.Core.Bool.{Bool, true, false}
-use mathlib.Core.Option.{Option, none, some}
+use mathlib.Core.Bool.{Bool}
+use mathlib.Core.Option.{Option}
 use mathlib.Core.List.{List}
-use Rattle.outcomes.specs.Firsts.{when}
-use Rattle.outcomes.specs.Outcomes.{Refusal, bare, Outcome, answered, unless, foundOr}
+use Rattle.outcomes.specs.Outcomes.{Refusal, Outcome, refused, answered, unless}
 use Rattle.outcomes.proofs.Laws.{Only}
-use Rattle.characters.specs.Strings.{characters, odd}
-use Rattle.version_text.specs.Versions.{Figures, firstNumber, versionIn}
+use Rattle.version_text.specs.Versions.{Figures, versionIn}
+use Rattle.version_text.proofs.Rules.{refused-25}
 use Rattle.name_search.specs.declared.Text.{Text}
 use Rattle.name_answers.specs.Versions.{Reading, readFrom}
 use Rattle.refusal_words.proofs.ReadBack.{said, Numbered, back-unless}
@@ -43,11 +42,9 @@ version-back r o p h = back-unless versionWords (λ w. w .refusal) readingIn (λ
 
 -- the number in a record's string, or 25
 pub number-back : (i : ℕ) (wide : Bool) (bytes : List ℕ) → let o = readFrom i (versionIn wide bytes) in versionSaid (versionWords o) ≡ o
-unfolding versionIn unless when foundOr readFrom versionWords
-number-back i wide bytes = at (odd wide bytes) (firstNumber (characters wide bytes))
+unfolding readFrom versionWords
+number-back i wide bytes = at (versionIn wide bytes) refl
   where
-    at : (t : Bool) (q : Option Figures) →
-        let o = readFrom i (unless (when t (bare 25)) (foundOr (bare 25) q answered)) in versionSaid (versionWords o) ≡ o
-    at true q = refl
-    at false none = refl
-    at false (some f) = refl
+    at : (f : Outcome Figures) → versionIn wide bytes ≡ f → let o = readFrom i (versionIn wide bytes) in versionSaid (versionWords o) ≡ o
+    at (answered f) e = rw e refl
+    at (refused n c) e = rw (refused-25 wide bytes e) refl

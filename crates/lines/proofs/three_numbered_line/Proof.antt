@@ -1,9 +1,9 @@
 -- Each piece stands behind those before it, and all of them fit.
 -- Assumes nothing.
 use Rattle.lines.proofs.Pieces.{put-both}
 use borrow.Author.Needs.{needs}
-use Rattle.name_lines.proofs.plain.three_numbered_line.Statement.{statement}
-use Rattle.name_lines.proofs.plain.three_numbered_line.Tie as tie
+use Rattle.lines.proofs.three_numbered_line.Statement.{statement}
+use Rattle.lines.proofs.three_numbered_line.Tie as tie
 
 returns : tie.Need-returns
 returns c =
