@@ -1,6 +1,6 @@
 /*
- * Gyalvindor: a proved reader of a font's 'name' and 'OS/2' tables, a proved comparison of two of them, and a proved writer of
- * 'OS/2' tables.
+ * Gyalvindor: a proved reader of a font's 'name' and 'OS/2' tables, a proved comparison of two of them, and proved writers of
+ * both.
  *
  * Building. `rt staticlib gyalvindor`, run in the repository's root, makes the archive. Then:
  *
@@ -11,7 +11,7 @@
  *
  * Tables. A table is lent as a pointer to its first byte and its length in bytes. It is the bytes of one table, not of a
  * whole font; finding tables in a font file is left to the caller. Pointers must not be NULL, also where the length is 0.
- * Only gv_os2_write, gv_os2_rewrite, gv_os2_compare and gv_name_compare write to memory.
+ * Only gv_os2_write, gv_os2_rewrite, gv_name_write, gv_os2_compare and gv_name_compare write to memory.
  *
  * Answers. Every function gives a struct by value. Look at its refusal first: where refusal.number is not 0 there is no
  * answer, and the number says why. Every function checks the whole table before it answers, so gv_name_check and gv_os2_check
@@ -23,7 +23,7 @@
  *     else if (weight.kind == GV_VALUE)
  *         printf("weight %lld\n", (long long)weight.value);
  *
- * examples/face.c uses every function.
+ * examples/face.c uses every function but gv_name_write, which examples/rename.c uses.
  */
 #ifndef GYALVINDOR_H
 #define GYALVINDOR_H
@@ -38,8 +38,8 @@ extern "C" {
 /*
  * A refusal. Where the call is not refused, `number` is 0, and so are `carries` and `carried`. Where it is refused, all
  * members after the refusal are 0, in every answer, but for `side` of gv_compared, which says which table is refused. Where
- * several refusals apply, the one that is given is the first in the order that stands at the function. Records and tags are
- * counted from 0.
+ * several refusals apply, the one that is given is the first in the order that stands at the function. Records, tags and
+ * entries are counted from 0. For gv_name_write, 17, 18 and 19 are about an entry, and carry its number.
  *
  *   number  given exactly when                                              carried
  *     1     the level is above 5                                            -
@@ -71,6 +71,10 @@ extern "C" {
  *    27     a record's string starts within storage or at its end, and      the record
  *           runs over the end
  *    29     two tables have more differences than there are rows for        -
+ *    30     there are more than 5460 entries to write                       -
+ *    31     an entry's text passes the pool's end                           the entry
+ *    32     an entry's string would start beyond offset 65535               the entry
+ *    33     the room is shorter than the 'name' table to write              -
  *
  * The rules for OS/2 values that refusal 3 carries:
  *
@@ -250,9 +254,9 @@ gv_style gv_os2_style_position(const uint8_t *table, size_t length, uint32_t lev
 /* The optical sizes that the face is meant for. Refusals 1, 2, 3, in this order. */
 gv_optical gv_os2_optical_sizes(const uint8_t *table, size_t length, uint32_t level);
 
-/* ---- writing 'OS/2' tables */
+/* ---- writing tables */
 
-/* How many bytes were written. Where the call is refused it is 0, and the room holds what it held. */
+/* How many bytes were written: the table's length. Where the call is refused it is 0, and the room holds what it held. */
 typedef struct gv_written {
     gv_refusal refusal;
     size_t size;
@@ -266,6 +270,26 @@ gv_written gv_os2_write(const int64_t numbers[GV_FIELDS], uint8_t *room, size_t 
 /* Reads a table at level 5 and writes its fields: the same bytes, up to its version's size. Table and room must not overlap.
    Refusals 2, 3, 4, 5, in this order. */
 gv_written gv_os2_rewrite(const uint8_t *table, size_t table_length, uint8_t *room, size_t length);
+
+/* One entry of a 'name' table to write: the four numbers of its record, and where its text lies in the pool. The text is the
+   bytes pool[start] to pool[start + length - 1], as they are to stand in the table: what they mean follows from platform and
+   encoding. Texts of different entries may overlap in the pool, or be the same. */
+typedef struct gv_entry {
+    uint16_t platform;
+    uint16_t encoding;
+    uint16_t language;
+    uint16_t name;
+    size_t start; /* any number */
+    uint16_t length;
+} gv_entry;
+
+/* Writes a 'name' table of format 0 at the start of the room; no later byte is touched. It has a record for each entry, in the
+   given order, and each entry's text copied behind the one before it; the texts stand directly behind the records. Reading it
+   finds each entry's text in the record of the entry's number. There may be no entry: that is a table of 6 bytes. The room
+   overlaps neither entries nor pool. Refusals 30; then for each entry 31, 18, 17 or 19, 32; then 33. A table needs 6 bytes, 12
+   for each entry and the bytes of the texts. */
+gv_written gv_name_write(const gv_entry *entries, size_t count, const uint8_t *pool, size_t pool_length, uint8_t *room,
+                         size_t length);
 
 /* ---- two tables compared
 

@@ -41,6 +41,18 @@ pub enum Optical {
     Between(f32, f32),
 }
 
+/// An entry of a 'name' table to write: its key, and where its text lies in the pool. As `gv_entry`.
+#[repr(C)]
+#[derive(Clone, Copy, Debug)]
+pub struct Entry {
+    pub platform: u16,
+    pub encoding: u16,
+    pub language: u16,
+    pub name: u16,
+    pub start: usize,
+    pub length: u16,
+}
+
 /// The size written.
 pub type Written = Result<usize>;
 

@@ -6,7 +6,7 @@ mod library;
 mod plain;
 mod tuned;
 
-use answers::Answer;
+use answers::{Answer, Entry};
 use library::raw;
 use std::fmt::Debug;
 use std::hint::black_box;
@@ -518,6 +518,113 @@ fn time_comparisons(names: &[Vec<u8>], os2s: &[Vec<u8>]) -> Vec<Bar> {
     ]
 }
 
+/// Entries of a 'name' table to write, and the pool with their texts.
+struct Entries(Vec<Entry>, Vec<u8>);
+
+/// The records of a table as entries, with the table as the pool, where it can be written so.
+fn entries_of(t: &[u8]) -> Option<Entries> {
+    let word = |at: usize| u16::from_be_bytes([t[at], t[at + 1]]);
+    if plain::check(t).is_err() || word(0) != 0 {
+        return None;
+    }
+    let entry = |at: usize| Entry {
+        platform: word(at),
+        encoding: word(at + 2),
+        language: word(at + 4),
+        name: word(at + 6),
+        start: usize::from(word(4)) + usize::from(word(at + 10)),
+        length: word(at + 8),
+    };
+    let all = (0..usize::from(word(2)))
+        .map(|i| entry(6 + 12 * i))
+        .collect();
+    Some(Entries(all, t.to_vec()))
+}
+
+/// So many entries with texts of so many bytes, all from the pool's start on.
+fn entries_made(count: u16, length: u16) -> Entries {
+    let entry = |name| Entry {
+        platform: 3,
+        encoding: 1,
+        language: 0x409,
+        name,
+        start: 0,
+        length,
+    };
+    Entries(
+        (0..count).map(entry).collect(),
+        (0..length).map(|x| x as u8).collect(),
+    )
+}
+
+/// Work over each list of entries in turn, in room that is enough, the result kept from being optimised away.
+fn over_entries<'a, R>(
+    lists: &'a [Entries],
+    f: impl Fn(&[Entry], &[u8], &mut [u8]) -> R + 'a,
+) -> Box<dyn FnMut() + 'a> {
+    let mut room = vec![0; 200_000];
+    Box::new(move || {
+        for Entries(entries, pool) in lists {
+            black_box(f(black_box(entries), black_box(pool), black_box(&mut room)));
+        }
+    })
+}
+
+fn time_name_writer(names: &[Vec<u8>]) -> Vec<Bar> {
+    let fonts: Vec<Entries> = names.iter().filter_map(|t| entries_of(t)).collect();
+    let [many, long, one] =
+        [(5460, 12), (30, 2000), (1, 65535)].map(|(count, length)| [entries_made(count, length)]);
+    for Entries(entries, pool) in fonts.iter().chain(&many).chain(&long).chain(&one) {
+        let mut rooms = [7, 7].map(|byte| vec![byte; 200_000]);
+        let [ours, theirs] = &mut rooms;
+        let done = library::write_names(entries, pool, ours);
+        assert_eq!(
+            done,
+            plain::write_names(entries, pool, theirs),
+            "writing differs"
+        );
+        assert!(ours == theirs, "the rooms differ");
+        let size = done.expect("a list made for the benchmark is refused");
+        assert_eq!(
+            library::write_names(entries, pool, &mut ours[..size - 1]),
+            plain::write_names(entries, pool, &mut theirs[..size - 1]),
+            "writing in too little room differs"
+        );
+    }
+    let time = |what, calls, lists: &[Entries]| {
+        line_plain(
+            what,
+            calls,
+            best([
+                over_entries(lists, raw::write_names),
+                over_entries(lists, plain::write_names),
+            ]),
+        )
+    };
+    vec![
+        bar(
+            "write 'name', a font, to plain",
+            1.5,
+            time("write 'name', a font", fonts.len(), &fonts),
+        ),
+        bar(
+            "write 'name', 5460 texts of 12 bytes, to plain",
+            1.5,
+            time("write 'name', an entry of 5460, 12 bytes", 5460, &many),
+        ),
+        bar(
+            "write 'name', 30 texts of 2000 bytes, to plain",
+            1.5,
+            time("write 'name', 30 texts of 2000 bytes", 1, &long),
+        ),
+        bar(
+            "write 'name', one text of 65535 bytes, to plain",
+            1.5,
+            time("write 'name', one text of 65535 bytes", 1, &one),
+        ),
+    ]
+}
+
 /// Another reader of fonts. It does other work: it checks less and says less.
 pub struct Other {
     /// Its name.
@@ -586,6 +693,7 @@ pub fn run(other: Option<Other>) -> ExitCode {
         time_os2s(&found.os2s),
         time_many(),
         time_comparisons(&found.names, &found.os2s),
+        time_name_writer(&found.names),
     ]
     .concat();
     println!();

@@ -1,6 +1,6 @@
 //! The proved library, as `include/gyalvindor.h` declares it.
 
-use crate::answers::{Answer, Compared, Optical, Refusal, Result, Text, Version, Written};
+use crate::answers::{Answer, Compared, Entry, Optical, Refusal, Result, Text, Version, Written};
 
 #[repr(C)]
 #[derive(Clone, Copy)]
@@ -91,6 +91,14 @@ unsafe extern "C" {
     fn gv_os2_style_position(table: *const u8, length: usize, level: u32) -> GvStyle;
     fn gv_os2_optical_sizes(table: *const u8, length: usize, level: u32) -> GvOptical;
     fn gv_os2_write(numbers: *const i64, room: *mut u8, length: usize) -> GvWritten;
+    fn gv_name_write(
+        entries: *const Entry,
+        count: usize,
+        pool: *const u8,
+        pool_length: usize,
+        room: *mut u8,
+        length: usize,
+    ) -> GvWritten;
     fn gv_os2_compare(
         left: *const u8,
         left_length: usize,
@@ -180,6 +188,20 @@ pub mod raw {
     #[inline]
     pub fn write(numbers: &[i64; 48], room: &mut [u8]) -> GvWritten {
         unsafe { gv_os2_write(numbers.as_ptr(), room.as_mut_ptr(), room.len()) }
+    }
+
+    #[inline]
+    pub fn write_names(entries: &[Entry], pool: &[u8], room: &mut [u8]) -> GvWritten {
+        unsafe {
+            gv_name_write(
+                entries.as_ptr(),
+                entries.len(),
+                pool.as_ptr(),
+                pool.len(),
+                room.as_mut_ptr(),
+                room.len(),
+            )
+        }
     }
 
     #[inline]
@@ -322,6 +344,11 @@ pub fn optical_sizes(t: &[u8], level: u32) -> Result<Answer<Optical>> {
 
 pub fn write(numbers: &[i64; 48], room: &mut [u8]) -> Written {
     let r = raw::write(numbers, room);
+    none_or(r.refusal, r.size)
+}
+
+pub fn write_names(entries: &[Entry], pool: &[u8], room: &mut [u8]) -> Written {
+    let r = raw::write_names(entries, pool, room);
     none_or(r.refusal, r.size)
 }
 

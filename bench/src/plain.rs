@@ -1,7 +1,7 @@
 //! Plain safe Rust: the rules written down one after the other, each number read where it is wanted.
 
 use crate::answers::{
-    Answer, Compared, Optical, Refusal, Result, Text, Version, Written, refuse, refuse_at,
+    Answer, Compared, Entry, Optical, Refusal, Result, Text, Version, Written, refuse, refuse_at,
 };
 use std::cmp::Ordering;
 
@@ -633,4 +633,65 @@ pub fn write(numbers: &[i64; 48], room: &mut [u8]) -> Written {
         }
     }
     Ok(size)
+}
+
+fn entry_key(e: &Entry) -> [u16; 4] {
+    [e.platform, e.encoding, e.language, e.name]
+}
+
+#[inline(never)]
+pub fn write_names(entries: &[Entry], pool: &[u8], room: &mut [u8]) -> Written {
+    if entries.len() > 5460 {
+        return refuse(30);
+    }
+    let mut offset = 0;
+    for (i, e) in entries.iter().enumerate() {
+        let length = usize::from(e.length);
+        if e.start
+            .checked_add(length)
+            .is_none_or(|end| end > pool.len())
+        {
+            return refuse_at(31, i);
+        }
+        if e.language >= 0x8000 && !(240..=255).contains(&e.platform) {
+            return refuse_at(18, i);
+        }
+        if i > 0 {
+            let before = entry_key(&entries[i - 1]);
+            if entry_key(e) < before {
+                return refuse_at(17, i);
+            }
+            if entry_key(e) == before {
+                return refuse_at(19, i);
+            }
+        }
+        if offset > 65535 {
+            return refuse_at(32, i);
+        }
+        offset += length;
+    }
+    let storage = 6 + 12 * entries.len();
+    if room.len() < storage + offset {
+        return refuse(33);
+    }
+    let mut put = |at: usize, x: u16| room[at..at + 2].copy_from_slice(&x.to_be_bytes());
+    put(0, 0);
+    put(2, entries.len() as u16);
+    put(4, storage as u16);
+    let mut offset = 0;
+    for (i, e) in entries.iter().enumerate() {
+        let at = 6 + 12 * i;
+        let mut put = |at: usize, x: u16| room[at..at + 2].copy_from_slice(&x.to_be_bytes());
+        put(at, e.platform);
+        put(at + 2, e.encoding);
+        put(at + 4, e.language);
+        put(at + 6, e.name);
+        put(at + 8, e.length);
+        put(at + 10, offset as u16);
+        let start = storage + offset;
+        let length = usize::from(e.length);
+        room[start..start + length].copy_from_slice(&pool[e.start..e.start + length]);
+        offset += length;
+    }
+    Ok(storage + offset)
 }

@@ -1,4 +1,4 @@
-//! Reads the 'name' and 'OS/2' tables of a font, lists what differs between two of them, and writes 'OS/2' tables.
+//! Reads the 'name' and 'OS/2' tables of a font, lists what differs between two of them, and writes both.
 //!
 //! A font file is a set of tables. Two of them say what the font is called and how it fits in with others: 'name' holds
 //! strings in several languages, and 'OS/2' holds some fifty numbers. This crate takes the bytes of such a table, wherever

@@ -1,4 +1,4 @@
-//! Questions on a 'name' table, formats 0 and 1.
+//! Questions on a 'name' table, formats 0 and 1, and its writer.
 //!
 //! The table holds records. Each has a key of four numbers (platform, encoding, language, name) and the place of a string.
 //! In format 1 it also holds language tags, to which language numbers from 0x8000 upwards refer.
@@ -316,4 +316,76 @@ pub fn compare<'a>(
 ) -> Result<&'a [Difference], CompareRefusal> {
     let count = CompareRefusal::checked(raw::name_compare(left, right, rows))?;
     Ok(&rows[..count])
+}
+
+/// One entry of a table to be written: the four numbers of its record, and where its text lies in the pool.
+///
+/// Any numbers may stand here: [`write`] says what is wrong with them.
+#[repr(C)]
+#[derive(Clone, Copy, Debug, PartialEq, Eq, Hash)]
+pub struct Entry {
+    /// The record's platform.
+    pub platform: u16,
+    /// Its encoding.
+    pub encoding: u16,
+    /// Its language.
+    pub language: u16,
+    /// Its name.
+    pub name: u16,
+    /// The text's first byte, counted from the pool's first byte.
+    pub start: usize,
+    /// How many bytes the text has.
+    pub length: u16,
+}
+
+/// Writes the table of the entries at the start of the room, and answers its length.
+///
+/// The table has format 0 and a record for each entry, in the given order. The entries' texts are copied one after another,
+/// directly behind the records, and nothing is shared: two entries with the same text get two copies. Looking up an entry's
+/// four numbers in the table finds its text, in the record of the entry's number. No byte after the table is touched. A table
+/// needs 6 bytes, 12 for each entry and the bytes of the texts.
+///
+/// # Errors
+///
+/// In this order: [`Refusal::TooManyEntries`]; then for each entry [`Refusal::TextPassesPool`], [`Refusal::Language`],
+/// [`Refusal::KeyBelow`] or [`Refusal::KeyEqual`], [`Refusal::OffsetTooFar`]; then [`Refusal::NameRoomTooShort`]. The room then
+/// holds what it held.
+///
+/// # Examples
+///
+/// ```
+/// use gyalvindor::name::{self, Entry};
+/// use gyalvindor::Refusal;
+///
+/// let pool = b"Serif\0S\0e\0r\0i\0f";
+/// let mut entries = [
+///     Entry { platform: 1, encoding: 0, language: 0, name: 1, start: 0, length: 5 },
+///     Entry { platform: 3, encoding: 1, language: 0x409, name: 1, start: 5, length: 10 },
+/// ];
+///
+/// let mut room = [0xEE; 50];
+/// let size = name::write(&entries, pool, &mut room)?;
+/// assert_eq!(size, 6 + 2 * 12 + 15);
+/// assert_eq!(room[size..], [0xEE; 5]);
+///
+/// let table = &room[..size];
+/// let family = name::lookup(table, 3, 1, 0x409, 1)?;
+/// assert_eq!(&table[family.range()], b"\0S\0e\0r\0i\0f");
+/// assert_eq!(family.record, 1);
+///
+/// // Records are sorted by their four numbers, and the writer does not sort them.
+/// entries.swap(0, 1);
+/// assert_eq!(name::write(&entries, pool, &mut room), Err(Refusal::KeyBelow { record: 1 }));
+///
+/// // No start is too large to be refused.
+/// entries[0].start = usize::MAX;
+/// assert_eq!(name::write(&entries, pool, &mut room), Err(Refusal::TextPassesPool { entry: 0 }));
+///
+/// // A table without records.
+/// assert_eq!(name::write(&[], &[], &mut room), Ok(6));
+/// assert_eq!(room[..6], [0, 0, 0, 0, 0, 6]);
+/// # Ok::<(), Refusal>(())
+/// ```
+pub fn write(entries: &[Entry], pool: &[u8], room: &mut [u8]) -> Result<usize, Refusal> {
+    Refusal::written(raw::name_write(entries, pool, room))
 }

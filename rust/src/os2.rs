@@ -392,7 +392,7 @@ pub fn optical_sizes(table: &[u8], level: u32) -> Result<Answer<OpticalSizes>, R
 /// # Ok::<(), Refusal>(())
 /// ```
 pub fn write(numbers: &[i64; FIELD_COUNT], room: &mut [u8]) -> Result<usize, Refusal> {
-    written(raw::os2_write(numbers, room))
+    Refusal::written(raw::os2_write(numbers, room))
 }
 
 /// Reads the table at level 5 and writes its fields at the start of the room: the same bytes, up to its version's size, which
@@ -421,7 +421,7 @@ pub fn write(numbers: &[i64; FIELD_COUNT], room: &mut [u8]) -> Result<usize, Ref
 /// assert_eq!(os2::rewrite(&table, &mut room[..77]), Err(Refusal::RoomTooShort));
 /// ```
 pub fn rewrite(table: &[u8], room: &mut [u8]) -> Result<usize, Refusal> {
-    written(raw::os2_rewrite(table, room))
+    Refusal::written(raw::os2_rewrite(table, room))
 }
 
 /// A field in which two tables differ: a row of [`compare`].
@@ -545,9 +545,4 @@ fn whole(raw: raw::Number) -> Result<Answer<i64>, Refusal> {
 
 fn bit(raw: raw::Number) -> Result<Answer<bool>, Refusal> {
     answer(raw.refusal, raw.kind, || raw.value != 0)
-}
-
-fn written(raw: raw::Written) -> Result<usize, Refusal> {
-    Refusal::checked(raw.refusal)?;
-    Ok(raw.size)
 }

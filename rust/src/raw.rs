@@ -2,10 +2,10 @@
 //!
 //! The layouts and the order of the members are those of `include/gyalvindor.h`. This is the only module with unsafe code.
 //!
-//! What makes every call below sound is the same. A slice lends `len()` bytes that nobody changes (or, for the room, that
-//! nobody else touches) until the call is over, and its pointer is never null, also where the slice is empty. The library
-//! reads only the tables and the 48 numbers, writes only the room, keeps no pointer, and answers whatever the bytes and
-//! numbers are.
+//! What makes every call below sound is the same. A slice lends `len()` bytes or entries that nobody changes (or, for the
+//! room, that nobody else touches) until the call is over, and its pointer is never null, also where the slice is empty. The
+//! library reads only the tables, the 48 numbers, the entries and the pool, writes only the room, keeps no pointer, and
+//! answers whatever the bytes and numbers are.
 
 use core::mem::{align_of, size_of};
 
@@ -102,7 +102,7 @@ const _: () = assert!(align_of::<os2::Difference>() == align_of::<i64>());
 const _: () = assert!(size_of::<name::Difference>() == 5 * size_of::<u16>());
 const _: () = assert!(align_of::<name::Difference>() == align_of::<u16>());
 
-// SAFETY: these are the sixteen functions of `include/gyalvindor.h`, with the types given there.
+// SAFETY: these are the seventeen functions of `include/gyalvindor.h`, with the types given there.
 unsafe extern "C" {
     fn gv_name_check(table: *const u8, length: usize) -> Refusal;
     fn gv_name_lookup(
@@ -127,6 +127,14 @@ unsafe extern "C" {
     fn gv_os2_rewrite(
         table: *const u8,
         table_length: usize,
+        room: *mut u8,
+        length: usize,
+    ) -> Written;
+    fn gv_name_write(
+        entries: *const name::Entry,
+        count: usize,
+        pool: *const u8,
+        pool_length: usize,
         room: *mut u8,
         length: usize,
     ) -> Written;
@@ -229,6 +237,22 @@ pub(crate) fn os2_rewrite(table: &[u8], room: &mut [u8]) -> Written {
     // SAFETY: the table lends `len()` readable bytes. The room lends `len()` writable bytes that nothing else refers to, so
     // it does not overlap the table. Neither pointer is null.
     unsafe { gv_os2_rewrite(table.as_ptr(), table.len(), room.as_mut_ptr(), room.len()) }
+}
+
+pub(crate) fn name_write(entries: &[name::Entry], pool: &[u8], room: &mut [u8]) -> Written {
+    // SAFETY: the entries lend `len()` readable structs of `gv_entry`'s layout, the pool `len()` readable bytes. The room lends
+    // `len()` writable bytes that nothing else refers to, so it overlaps neither. No pointer is null, and any numbers make an
+    // entry.
+    unsafe {
+        gv_name_write(
+            entries.as_ptr(),
+            entries.len(),
+            pool.as_ptr(),
+            pool.len(),
+            room.as_mut_ptr(),
+            room.len(),
+        )
+    }
 }
 
 pub(crate) fn os2_compare(

@@ -6,7 +6,7 @@ use crate::raw;
 
 /// Why a call is refused.
 ///
-/// Each case has a fixed [number](Refusal::number), and some carry a place: the record, tag, field or rule that is at
+/// Each case has a fixed [number](Refusal::number), and some carry a place: the record, tag, entry, field or rule that is at
 /// fault. Where more than one thing is wrong, the refusal is the first in the order that the called function states. A
 /// refused call gives no partial result, and memory lent for writing holds what it held.
 ///
@@ -82,7 +82,8 @@ pub enum Refusal {
         /// The tag's number, counted from 0.
         tag: usize,
     },
-    /// 17: a record's key is below the key of the record before it. Carries the later record.
+    /// 17: a record's key is below the key of the record before it. Carries the later record. (Here, at 18 and at 19: of a
+    /// table to be written, the record of an entry, which has the entry's number.)
     KeyBelow {
         /// The later record's number, counted from 0.
         record: usize,
@@ -116,6 +117,20 @@ pub enum Refusal {
     },
     /// 29: two tables have more differences than there are rows for.
     TooManyDifferences,
+    /// 30: there are more than 5,460 entries to be written.
+    TooManyEntries,
+    /// 31: an entry's text passes the end of the pool. Carries the entry.
+    TextPassesPool {
+        /// The entry's number, counted from 0.
+        entry: usize,
+    },
+    /// 32: an entry's string would start beyond offset 65,535. Carries the entry.
+    OffsetTooFar {
+        /// The entry's number, counted from 0.
+        entry: usize,
+    },
+    /// 33: the room to write in is shorter than the 'name' table.
+    NameRoomTooShort,
 }
 
 /// The rules that the values of an 'OS/2' table have to keep. They are checked in this order.
@@ -193,7 +208,7 @@ impl fmt::Display for Rule {
 }
 
 impl Refusal {
-    /// The refusal's number: 1 to 8, 10 to 25, 27 or 29.
+    /// The refusal's number: 1 to 8, 10 to 25, 27, or 29 to 33.
     pub const fn number(self) -> u32 {
         match self {
             Refusal::UnknownLevel => 1,
@@ -222,10 +237,14 @@ impl Refusal {
             Refusal::NoVersionNumber => 25,
             Refusal::StringRunsOver { .. } => 27,
             Refusal::TooManyDifferences => 29,
+            Refusal::TooManyEntries => 30,
+            Refusal::TextPassesPool { .. } => 31,
+            Refusal::OffsetTooFar { .. } => 32,
+            Refusal::NameRoomTooShort => 33,
         }
     }
 
-    /// The record, tag, field or rule that the refusal carries, if it carries one.
+    /// The record, tag, entry, field or rule that the refusal carries, if it carries one.
     pub const fn carried(self) -> Option<usize> {
         match self {
             Refusal::ValueRule(rule) => Some(rule.number()),
@@ -236,8 +255,15 @@ impl Refusal {
             | Refusal::KeyBelow { record }
             | Refusal::KeyEqual { record } => Some(record),
             Refusal::TagString { tag } => Some(tag),
+            Refusal::TextPassesPool { entry } | Refusal::OffsetTooFar { entry } => Some(entry),
             _ => None,
         }
+    }
+
+    /// How many bytes the library wrote, or its refusal.
+    pub(crate) fn written(raw: raw::Written) -> Result<usize, Refusal> {
+        Refusal::checked(raw.refusal)?;
+        Ok(raw.size)
     }
 
     /// What the library's refusal says: nothing for the number 0.
@@ -271,6 +297,10 @@ impl Refusal {
             25 => Refusal::NoVersionNumber,
             27 => Refusal::StringRunsOver { record: carried },
             29 => Refusal::TooManyDifferences,
+            30 => Refusal::TooManyEntries,
+            31 => Refusal::TextPassesPool { entry: carried },
+            32 => Refusal::OffsetTooFar { entry: carried },
+            33 => Refusal::NameRoomTooShort,
             number => unreachable!("the library knows no refusal {number}"),
         })
     }
@@ -340,6 +370,17 @@ impl fmt::Display for Refusal {
             ),
             Refusal::TooManyDifferences => {
                 f.write_str("the two tables have more differences than there are rows for")
+            }
+            Refusal::TooManyEntries => f.write_str("there are more than 5,460 entries to write"),
+            Refusal::TextPassesPool { entry } => {
+                write!(f, "the text of entry {entry} passes the end of the pool")
+            }
+            Refusal::OffsetTooFar { entry } => write!(
+                f,
+                "the string of entry {entry} would start beyond offset 65,535"
+            ),
+            Refusal::NameRoomTooShort => {
+                f.write_str("the room to write in is shorter than the 'name' table")
             }
         }
     }

@@ -1,12 +1,13 @@
-//! A second, independent reader of 'name' tables, reader and writer of 'OS/2'
-//! tables and comparison of two of either, written from document 01, "The font
-//! desk's rules for 'name' and 'OS/2'", and Asks 1 to 4 of document 02, "The
-//! next customer requests", alone.
+//! A second, independent reader and writer of 'name' and of 'OS/2' tables and
+//! comparison of two of either, written from document 01, "The font desk's rules
+//! for 'name' and 'OS/2'", and Asks 1 to 5 of document 02, "The next customer
+//! requests", alone.
 //!
 //! It exists to be compared with another program. So it is written for plain
 //! reading in the order of document 01, and not for speed.
 //!
-//! * [`name`]: the 'name' check, lookup, PostScript question, version question.
+//! * [`name`]: the 'name' check, lookup, PostScript question, version question,
+//!   the writer (document 02, Ask 5).
 //! * [`os2`]: the 'OS/2' acceptance, the seven questions, the writer, rewriting.
 //! * [`compare`]: what changed between two tables (document 02, Ask 2).
 //! * [`listing`]: the lines of the listing program and of the compare tool.
@@ -23,11 +24,12 @@ pub mod sfnt;
 
 use std::fmt;
 
-/// A refusal: its number in document 01's table, 29 of document 02's Ask 2, or
-/// 19 or 27 of its Ask 3, and what it carries.
+/// A refusal: its number in document 01's table, 29 of document 02's Ask 2, 19
+/// or 27 of its Ask 3, or 30 to 33 of its Ask 5, and what it carries.
 ///
 /// 3 carries the first rule broken (1 to 7), 8 the lowest field that does not
-/// fit, 15, 17, 18, 19 and 27 a record, 16 a tag. All others carry nothing.
+/// fit, 15, 17, 18, 19 and 27 a record, 16 a tag; of a table to write, 17, 18,
+/// 19, 31 and 32 an entry. All others carry nothing.
 #[derive(Clone, Copy, Debug, PartialEq, Eq, Hash)]
 pub struct Refusal {
     /// The refusal's number.
@@ -45,7 +47,7 @@ impl Refusal {
         }
     }
 
-    /// A refusal that carries a rule, a field, a record or a tag.
+    /// A refusal that carries a rule, a field, a record, a tag or an entry.
     pub const fn at(number: u32, place: u32) -> Refusal {
         Refusal {
             number,

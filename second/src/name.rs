@@ -1,5 +1,6 @@
 //! The 'name' table: the check (10 to 19, 27), the lookup (20), the PostScript
-//! question (21 to 24) and the version question (20, 25).
+//! question (21 to 24), the version question (20, 25) and the writer (30, 31,
+//! 18, 17, 19, 32, 33).
 
 use crate::{u16_at, Refusal};
 
@@ -13,6 +14,11 @@ const TAG_COUNT_BYTES: usize = 2;
 const TAG_BYTES: usize = 4;
 /// The first language number that stands for a language tag.
 const FIRST_TAG_LANGUAGE: u16 = 0x8000;
+/// The most records that an accepted table has, and the most entries that are
+/// written.
+pub const MOST_RECORDS: usize = 5_460;
+/// The highest offset that a record can hold.
+const HIGHEST_OFFSET: usize = 65_535;
 
 /// The PostScript name record with one byte a character.
 const POSTSCRIPT_ONE_BYTE: Key = (1, 0, 0, 6);
@@ -443,4 +449,111 @@ fn digit(character: u16) -> Option<u32> {
     } else {
         None
     }
+}
+
+/// One entry of a table to write (document 02, Ask 5): its four numbers, and
+/// where its text lies in the pool.
+#[derive(Clone, Copy, Debug, PartialEq, Eq)]
+pub struct Entry {
+    /// Platform number.
+    pub platform: u16,
+    /// Encoding number.
+    pub encoding: u16,
+    /// Language number.
+    pub language: u16,
+    /// Name number.
+    pub name: u16,
+    /// The text's first byte, from the pool's first byte. Any number.
+    pub start: u64,
+    /// The text's length in bytes.
+    pub length: u16,
+}
+
+impl Entry {
+    /// Platform, encoding, language, name.
+    pub fn key(&self) -> Key {
+        (self.platform, self.encoding, self.language, self.name)
+    }
+
+    /// The text's bytes, out of a pool that holds it.
+    fn text<'a>(&self, pool: &'a [u8]) -> &'a [u8] {
+        let start = self.start as usize;
+        &pool[start..start + usize::from(self.length)]
+    }
+}
+
+/// Writes a format 0 table of the entries at the start of `room` and gives its
+/// length (document 02, Ask 5): the records in the order of the entries, their
+/// texts one after another, nothing shared, the storage directly after the
+/// records. Refusals: 30; then entry by entry 31, 18, 17 or 19, 32; then 33;
+/// `room` then holds what it held.
+pub fn write(entries: &[Entry], pool: &[u8], room: &mut [u8]) -> Result<usize, Refusal> {
+    // 30: more than 5,460 entries.
+    if entries.len() > MOST_RECORDS {
+        return Err(Refusal::plain(30));
+    }
+
+    // Entries from 0 upward, at each 31, 18, 17 or 19, 32. An entry's offset is
+    // the sum of the lengths of the entries before it.
+    let mut offset = 0;
+    for (number, entry) in entries.iter().enumerate() {
+        // There are at most 5,460 entries.
+        let place = number as u32;
+        // 31: start plus length past the pool's end. An empty text may start at
+        // the end.
+        if passes_pool(entry, pool) {
+            return Err(Refusal::at(31, place));
+        }
+        // 18: language number not allowed in format 0, which has no tags.
+        if !language_allowed(0, entry.platform, entry.language, 0) {
+            return Err(Refusal::at(18, place));
+        }
+        if number > 0 {
+            let before = &entries[number - 1];
+            // 17: the key is below the one before it.
+            if entry.key() < before.key() {
+                return Err(Refusal::at(17, place));
+            }
+            // 19: the key is equal to it.
+            if entry.key() == before.key() {
+                return Err(Refusal::at(19, place));
+            }
+        }
+        // 32: the offset is above 65,535, be the text empty or not.
+        if offset > HIGHEST_OFFSET {
+            return Err(Refusal::at(32, place));
+        }
+        offset += usize::from(entry.length);
+    }
+
+    // 33: not enough room for the header, the records and the texts.
+    let storage_start = HEADER_BYTES + RECORD_BYTES * entries.len();
+    let size = storage_start + offset;
+    if room.len() < size {
+        return Err(Refusal::plain(33));
+    }
+
+    let mut front = vec![0, entries.len(), storage_start];
+    let mut storage = Vec::new();
+    for entry in entries {
+        let (platform, encoding, language, name) = entry.key();
+        front.extend([platform, encoding, language, name, entry.length].map(usize::from));
+        front.push(storage.len());
+        storage.extend_from_slice(entry.text(pool));
+    }
+    // The storage starts at 65,526 at most, and 32 looked at the offsets.
+    let sixteen_bits = |number| u16::try_from(number).expect("the number has 16 bits");
+    let mut table: Vec<u8> = front
+        .into_iter()
+        .flat_map(|number| sixteen_bits(number).to_be_bytes())
+        .collect();
+    table.extend(storage);
+    room[..size].copy_from_slice(&table);
+    Ok(size)
+}
+
+/// Whether start plus length is above the pool's length, empty texts included.
+/// The sum does not wrap.
+fn passes_pool(entry: &Entry, pool: &[u8]) -> bool {
+    u128::from(entry.start) + u128::from(entry.length) > pool.len() as u128
 }

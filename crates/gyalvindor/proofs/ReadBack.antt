@@ -22,6 +22,8 @@ use Rattle.name_lookup.specs.Answers.{lookupOf}
 use Rattle.name_answers.specs.Forms.{otherAt, illFormed, differAt, differ}
 use Rattle.name_answers.specs.Names.{fromStrings, fromBoth, postscriptOf}
 use Rattle.name_answers.specs.Versions.{fromRecords, versionOf}
+use Rattle.name_store.specs.declared.Entry.{Entry}
+use Rattle.name_store.specs.Writing as naming
 use Rattle.os2_rules.specs.declared.Values.{Values}
 use Rattle.os2_rules.specs.Tests.{verdictOf}
 use Rattle.os2_fields.specs.Fields.{raw, version, valuesOf}
@@ -179,7 +181,7 @@ pub optical-said : (L : ℕ) (b : List ℕ) → opticalSaid (opticalWords (ask L
 unfolding valueOf opticalWords membersOf outcomeRefusal
 optical-said L b = asked opticalWords (λ w. w .refusal) (λ w. saidBy (w .kind) (sizes (sizesIn w))) (λ n c. refl) refl refl L b OpticalSizes (sizes-back _)
 
--- ---- the writer
+-- ---- the writers
 
 pub write-said : (xs : List ℤ) (r : ℕ) → writtenSaid (writtenWords (write xs r)) ≡ write xs r
 unfolding write unwritten
@@ -189,6 +191,14 @@ write-said xs r =
 pub rewrite-said : (b : List ℕ) (r : ℕ) → writtenSaid (writtenWords (rewritten b r)) ≡ rewritten b r
 unfolding rewritten unrewritten
 rewrite-said b r = written-back _ _ (both _ _ (judged-numbered _ b) (both _ _ (one _ _ refl) (one _ _ refl)))
+
+entry-numbered : (es : List Entry) (p i : ℕ) → Only Numbered (naming.entryFault es p i)
+unfolding naming.entryFault
+entry-numbered es p i = both _ _ (one _ _ refl) (both _ _ (one _ _ refl) (both _ _ (one _ _ refl) (both _ _ (one _ _ refl) (one _ _ refl))))
+
+pub name-write-said : (es : List Entry) (p r : ℕ) → writtenSaid (writtenWords (naming.writeOf es p r)) ≡ naming.writeOf es p r
+unfolding naming.writeOf naming.unwritten
+name-write-said es p r = written-back _ _ (both _ _ (one _ _ refl) (both _ _ (only-first Numbered _ _ (entry-numbered es p)) (one _ _ refl)))
 
 -- ---- two tables compared
 

@@ -1,7 +1,7 @@
-// The reader, the comparison and the writer for C and Rust: the functions of the static library, each answering in plain numbers.
-// Document 01, whole, and document 02, Asks 1 to 4; `include/gyalvindor.h` says the same to a C programmer.
-// Relies on `name`, `name_lookup` and `name_strings`, on `os2` and `os2_writer`, on `name_compare` and `os2_compare`, which answer, and on `name_words`,
-// `os2_words` and `compare_words`, which put an answer into words of C.
+// The readers, the comparison and the writers for C and Rust: the functions of the static library, each answering in plain numbers.
+// Document 01, whole, and document 02, Asks 1 to 5; `include/gyalvindor.h` says the same to a C programmer.
+// Relies on `name`, `name_lookup`, `name_strings` and `name_writer`, on `os2` and `os2_writer`, on `name_compare` and `os2_compare`, which answer, and on
+// `name_words`, `name_writer_words`, `os2_words` and `compare_words`, which put an answer into words of C.
 ghost use mathlib.Core.Path.{_≡_};
 ghost use lib.ListN.{length};
 ghost use Rattle.name_layout.specs.Keys.{keyFrom};
@@ -9,6 +9,7 @@ ghost use Rattle.name.specs.Acceptance.{checkOf};
 ghost use Rattle.name_lookup.specs.Answers.{lookupOf};
 ghost use Rattle.name_answers.specs.Names.{postscriptOf};
 ghost use Rattle.name_answers.specs.Versions.{versionOf};
+ghost use Rattle.name_store.specs.Writing as naming;
 ghost use Rattle.os2_acceptance.specs.Acceptance.{checked};
 ghost use Rattle.os2_answers.specs.Asking.{ask};
 ghost use Rattle.os2_store.specs.Writing.{write, roomAfter};
@@ -22,12 +23,14 @@ ghost use Rattle.os2_words.specs.Words.{numberWords, rightsWords, styleWords, o
 use compare_words::GvCompared;
 use compare_words::name_compared_words;
 use compare_words::os2_compared_words;
+use name_store::Entry;
 use name_words::GvText;
 use name_words::GvVersion;
 use name_words::found_words;
 use name_words::named_words;
 use name_words::verdict_words;
 use name_words::version_words;
+use name_writer_words::name_written_words;
 use os2::Question;
 use os2_fields::FIELD_COUNT;
 use os2_words::GvNumber;
@@ -80,6 +83,14 @@ pub extern "C" fn gv_name_version(table: &[u8]) -> GvVersion
     ensures { λ r. ⌜ r ≡ versionWords (versionOf (now (table .entry))) ⌝ }
 {
     version_words(name_strings::version(table))
+}
+
+// Writes the 'name' table of entries, with their texts in a pool, into lent room.
+#[no_mangle]
+pub extern "C" fn gv_name_write(entries: &[Entry], pool: &[u8], room: &mut [u8]) -> GvWritten
+    ensures { λ r. ⌜ (r ≡ writtenWords (naming.writeOf (now (entries .entry)) (length (now (pool .entry))) (length (now (room .entry))))) × (now (room .exit) ≡ naming.roomAfter (now (entries .entry)) (now (pool .entry)) (now (room .entry))) ⌝ }
+{
+    name_written_words(name_writer::write(entries, pool, room))
 }
 
 // Whether a level accepts an 'OS/2' table.

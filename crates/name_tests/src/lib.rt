@@ -85,7 +85,7 @@ pub fn language_refused(table: &[u8], i: usize) -> bool
 }
 
 // Whether a language number is not allowed on a platform, in a format with this many tags.
-fn forbidden(format: u16, tags: u16, platform: u16, language: u16) -> bool
+pub fn forbidden(format: u16, tags: u16, platform: u16, language: u16) -> bool
     ensures { λ r. ⌜ r ≡ forbidden format tags platform language ⌝ }
 {
     if language < 0x8000 {

@@ -16,7 +16,7 @@ use crate::tally::Tally;
 /// The levels asked at when everything is asked.
 pub const LEVELS: [u32; 8] = [0, 1, 2, 3, 4, 5, 6, u32::MAX];
 /// Bytes before and after a lent room that nobody may touch.
-const MARGIN: usize = 24;
+pub const MARGIN: usize = 24;
 
 /// A difference, or an answer that the papers have no place for, in whole lines.
 #[derive(Debug)]
@@ -124,7 +124,7 @@ impl Asker {
         length: usize,
         pattern: u8,
     ) -> Result<Words, Difference> {
-        let words = same_rooms(
+        let (words, _) = same_rooms(
             &format_args!("write with {length} bytes of room"),
             Function::Write,
             length,
@@ -150,7 +150,7 @@ impl Asker {
         length: usize,
         pattern: u8,
     ) -> Result<Words, Difference> {
-        let words = same_rooms(
+        let (words, _) = same_rooms(
             &format_args!("rewrite with {length} bytes of room"),
             Function::Rewrite,
             length,
@@ -435,7 +435,12 @@ pub fn as_read(
 }
 
 /// The message where all sides agree and the comparison's own reading says something else.
-fn otherwise(question: &dyn Display, function: Function, words: Words, said: &str) -> Difference {
+pub fn otherwise(
+    question: &dyn Display,
+    function: Function,
+    words: Words,
+    said: &str,
+) -> Difference {
     Difference(format!(
         "{question}: the sides agree, but the comparison reads the papers otherwise\n  comparison: {said}\n  all sides:  {}\n",
         shown(function, words)
@@ -443,16 +448,17 @@ fn otherwise(question: &dyn Display, function: Function, words: Words, said: &st
 }
 
 /// One side's writing into a room.
-type Writing<'a> = &'a dyn Fn(&mut [u8]) -> Words;
+pub type Writing<'a> = &'a dyn Fn(&mut [u8]) -> Words;
 
-/// Lends each side a room of the same length and bytes, and compares their words, the rooms and the bytes around them.
-fn same_rooms(
+/// Lends each side a room of the same length and bytes, and compares their words, the rooms and the bytes around them. Gives
+/// the words, and what all sides leave in the room, with the bytes around it.
+pub fn same_rooms(
     question: &dyn Display,
     function: Function,
     length: usize,
     pattern: u8,
     sides: &[Writing; 3],
-) -> Result<Words, Difference> {
+) -> Result<(Words, Vec<u8>), Difference> {
     let before: Vec<u8> = (0..length + 2 * MARGIN)
         .map(|place| (place as u8).wrapping_mul(37).wrapping_add(pattern))
         .collect();
@@ -468,7 +474,10 @@ fn same_rooms(
         if words != expected {
             return Err(differ(question, function, expected, title, words));
         }
-        if let Some(place) = (0..before.len()).find(|&place| room[place] != left[place]) {
+        if room != left {
+            let place = (0..before.len())
+                .find(|&place| room[place] != left[place])
+                .unwrap_or(0);
             return Err(Difference(format!(
                 "{question}: the rooms differ at byte {}, counted from the room's start\n  {:8} {}\n  {:8} {}\n",
                 place as i64 - MARGIN as i64,
@@ -479,22 +488,27 @@ fn same_rooms(
             )));
         }
     }
-    // What document 01 says of lent memory, of all sides at once.
+    // What the papers say of lent memory, of all sides at once.
     let touched = match expected[0] {
         0 => expected[3] as usize,
         _ => 0,
     };
-    let outside = (0..before.len()).find(|&place| {
-        !(MARGIN..MARGIN + touched).contains(&place) && left[place] != before[place]
-    });
-    if let Some(place) = outside {
+    if touched > length {
+        return Err(Difference(format!(
+            "{question}: all sides say that they wrote {touched} bytes\n"
+        )));
+    }
+    let (from, to) = (MARGIN, MARGIN + touched);
+    if left[..from] != before[..from] || left[to..] != before[to..] {
+        let outside = (0..from).chain(to..before.len());
+        let mut changed = outside.filter(|&place| left[place] != before[place]);
         return Err(Difference(format!(
             "{}: byte {}, counted from the room's start, is not to be touched, and all sides change it\n",
             question,
-            place as i64 - MARGIN as i64
+            changed.next().unwrap_or(0) as i64 - MARGIN as i64
         )));
     }
-    Ok(expected)
+    Ok((expected, left))
 }
 
 /// The 16-bit number at a place, or 0 where the table's bytes don't go so far.
@@ -521,7 +535,7 @@ pub fn stored_keys(table: &[u8]) -> Vec<[u32; 4]> {
 }
 
 /// The near misses of one part of a key.
-fn near_parts(part: u32) -> [u32; 6] {
+pub fn near_parts(part: u32) -> [u32; 6] {
     [
         part.wrapping_sub(1),
         part.wrapping_add(1),

@@ -3,8 +3,10 @@
 
 mod ask;
 mod cases;
+mod entries;
 mod faults;
 mod fonts;
+mod lists;
 mod make;
 mod met;
 mod numbers;
@@ -19,6 +21,11 @@ mod rows;
 mod sides;
 mod sweeps;
 mod tally;
+mod write_cases;
+mod write_met;
+mod write_sweeps;
+mod writing;
+mod written;
 
 use std::io::{IsTerminal, Write};
 use std::ops::Range;
@@ -28,13 +35,14 @@ use std::time::{Duration, Instant, SystemTime, UNIX_EPOCH};
 use std::{env, fs, io, process};
 
 use ask::{caught, Amount, Asker, Difference};
+use entries::List;
 use make::Made;
 use numbers::Numbers;
 use tally::Tally;
 
 const USAGE: &str = "usage: compare [OPTION]... [FOLDER]...
 Compares the archive and the Rust crate over it with the second program on the rows of document 01 and of document 02's Asks 1
-to 4, in sweeps over the places that the rules look at, on tables made at random, and on the fonts under the folders. Without
+to 5, in sweeps over the places that the rules look at, on tables made at random, and on the fonts under the folders. Without
 folders: the fonts installed on the machine.
 
   --rows, --sweeps, --random, --fonts
@@ -46,6 +54,8 @@ folders: the fonts installed on the machine.
   --name FILE     only: ask everything of the 'name' table in this file
   --os2 FILE      only: ask everything of the 'OS/2' table in this file
   --numbers FILE  only: write the 48 numbers in this file, one a line
+  --entries FILE POOL
+                  only: write the entries in this file, one a line, with the bytes of the other as the pool
   --compare-name LEFT RIGHT, --compare-os2 LEFT RIGHT
                   only: compare the two tables in these files";
 
@@ -149,7 +159,7 @@ fn parse(arguments: Vec<String>) -> Result<Option<Task>, String> {
                 let file = PathBuf::from(after()?);
                 task.single = Some((argument, vec![file]));
             }
-            "--compare-name" | "--compare-os2" => {
+            "--compare-name" | "--compare-os2" | "--entries" => {
                 let files = vec![PathBuf::from(after()?), PathBuf::from(after()?)];
                 task.single = Some((argument, files));
             }
@@ -206,6 +216,11 @@ fn single(task: &Task, option: &str, files: &[PathBuf]) -> Result<Tally, Stop> {
         "--os2" => Made::Os2(bytes),
         "--compare-name" => Made::NamePair(bytes, read(&files[1])?),
         "--compare-os2" => Made::Os2Pair(bytes, read(&files[1])?),
+        "--entries" => {
+            let lines = String::from_utf8_lossy(&bytes);
+            let list = List::of_lines(&lines, read(&files[1])?);
+            Made::Entries(list.map_err(Stop::Fault)?)
+        }
         _ => {
             let text = String::from_utf8_lossy(&bytes);
             let numbers: Vec<i64> = text
@@ -222,7 +237,7 @@ fn single(task: &Task, option: &str, files: &[PathBuf]) -> Result<Tally, Stop> {
     };
     let mut asker = Asker::new();
     let place = match files {
-        [left, right] => format!("the files {} and {}", left.display(), right.display()),
+        [first, other] => format!("the files {} and {}", first.display(), other.display()),
         _ => format!("the file {}", files[0].display()),
     };
     one(
@@ -252,10 +267,18 @@ fn document_rows(task: &Task) -> Result<Tally, Stop> {
             stopped(task, &case.made(), difference, &place)
         })?;
     }
+    let lists = write_cases::cases();
+    for case in &lists {
+        caught(|| write_cases::ask(&mut asker, case)).map_err(|difference| {
+            let place = format!("the list \"{}\"", case.words);
+            stopped(task, &case.made(), difference, &place)
+        })?;
+    }
     say!(
-        "documents 01 and 02: {} rows and {} comparisons, {} calls",
+        "documents 01 and 02: {} rows, {} comparisons and {} lists of entries, {} calls",
         rows.len(),
         cases.len(),
+        lists.len(),
         asker.tally.calls()
     );
     Ok(asker.tally)
@@ -267,7 +290,8 @@ fn sweeps_over(task: &Task) -> Result<Tally, Stop> {
     let groups = sweeps::SWEEPS
         .into_iter()
         .chain(record_sweeps::SWEEPS)
-        .chain(pair_sweeps::SWEEPS);
+        .chain(pair_sweeps::SWEEPS)
+        .chain(write_sweeps::SWEEPS);
     for (words, sweep) in groups {
         if terminal {
             eprint!("\r{:60}\rsweep: {words} ", "");
@@ -300,9 +324,9 @@ fn at_random(task: &Task) -> Result<Tally, Stop> {
         let made = make::made(number, &mut numbers);
         let place = || format!("table {number} of seed {}", task.seed);
         one_lazily(task, &mut asker, &made, Amount::Some, &mut numbers, &place)?;
-        for (with, pair) in pairs(task, number, &made, &mut before, &mut numbers) {
+        for (with, more) in beside(task, number, &made, &mut before, &mut numbers) {
             let place = || format!("table {number} of seed {}, {with}", task.seed);
-            one_lazily(task, &mut asker, &pair, Amount::Some, &mut numbers, &place)?;
+            one_lazily(task, &mut asker, &more, Amount::Some, &mut numbers, &place)?;
         }
         progress.show(done);
     }
@@ -318,7 +342,7 @@ fn at_random(task: &Task) -> Result<Tally, Stop> {
     }
     if missing.is_empty() {
         say!(
-            "at random: every refusal, rule, field that does not fit, kind of answer, setting of the rights bits and thing of a comparison, of a record and of an answer was met"
+            "at random: every refusal, rule, field that does not fit, kind of answer, setting of the rights bits and thing of a comparison, of a record, of an answer and of a table to write was met"
         );
     } else {
         say!(
@@ -332,10 +356,10 @@ fn at_random(task: &Task) -> Result<Tally, Stop> {
 /// A table made at random with its number.
 type Numbered = Option<(u64, Vec<u8>)>;
 
-/// The pairs in which a table made at random is compared, and with what: the table and a partner made from it, the table of
-/// its kind before it and the table, and with some tables one of 5,460 records alone and two of them. `before` holds the last
-/// 'name' and 'OS/2' table.
-fn pairs(
+/// What is asked beside a table made at random. The pairs in which it is compared, and with what: the table and a partner made
+/// from it, the table of its kind before it and the table, and with some tables one of 5,460 records alone and two of them.
+/// With 48 numbers to write, a list of entries. `before` holds the last 'name' and 'OS/2' table.
+fn beside(
     task: &Task,
     number: u64,
     made: &Made,
@@ -351,7 +375,12 @@ fn pairs(
             let partner = partner::os2(numbers, bytes);
             (bytes, Made::Os2Pair, partner, &mut before[1])
         }
-        _ => return Vec::new(),
+        _ => {
+            return vec![(
+                "with a list of entries",
+                Made::Entries(lists::list(numbers)),
+            )]
+        }
     };
     let mut pairs = vec![("compared with its partner", pair(bytes.clone(), partner))];
     if let Some(number_before) = make::same_kind_before(number) {
@@ -443,6 +472,11 @@ fn installed_fonts(task: &Task) -> Result<Tally, Stop> {
         return Err(Stop::Fault(format!(
             "no fonts found: {under}. Name a folder that holds fonts"
         )));
+    }
+    if asker.tally.rewritings[1] == 0 {
+        return Err(Stop::Fault(
+            "of no font could the records of the 'name' table be written".to_string(),
+        ));
     }
     // Each font with the next, the last with the first.
     for (place, (words, tables)) in faces.iter().enumerate() {
@@ -537,7 +571,7 @@ impl Lent {
     }
 }
 
-/// Asks the questions on what was made. A table is also compared with itself.
+/// Asks the questions on what was made. A table is also compared with itself, and the records of a 'name' table are written.
 fn one_lazily(
     task: &Task,
     asker: &mut Asker,
@@ -553,7 +587,8 @@ fn one_lazily(
             let table = lent.bytes();
             let result = caught(|| {
                 asker.name(table, amount, numbers)?;
-                asker.name_pair(table, table, amount, numbers)
+                asker.name_pair(table, table, amount, numbers)?;
+                asker.rewriting(table, amount, numbers)
             });
             (result, table != bytes)
         }
@@ -567,6 +602,7 @@ fn one_lazily(
             (result, table != bytes)
         }
         Made::Numbers(values) => (caught(|| asker.numbers(values, amount, numbers)), false),
+        Made::Entries(list) => (caught(|| asker.entries(list, amount, numbers)), false),
         Made::NamePair(left, right) => {
             let lent = [lend(left), lend(right)];
             let tables = [lent[0].bytes(), lent[1].bytes()];
@@ -598,6 +634,13 @@ fn stopped(task: &Task, made: &Made, difference: Difference, place: &str) -> Sto
             let lines: String = values.iter().map(|value| format!("{value}\n")).collect();
             ("--numbers", vec![("numbers", lines.into_bytes())])
         }
+        Made::Entries(list) => (
+            "--entries",
+            vec![
+                ("entries", list.lines().into_bytes()),
+                ("pool", list.pool.clone()),
+            ],
+        ),
         Made::NamePair(left, right) => (
             "--compare-name",
             vec![("left", left.clone()), ("right", right.clone())],
@@ -615,6 +658,8 @@ fn stopped(task: &Task, made: &Made, difference: Difference, place: &str) -> Sto
             .join(format!("compare-{title}-{}", process::id()));
         let what = match title {
             "numbers" => "48 numbers",
+            "entries" => "entries",
+            "pool" => "pool's bytes",
             "left" | "right" => &format!("{title} table's bytes"),
             _ => "table's bytes",
         };

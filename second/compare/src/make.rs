@@ -1,18 +1,20 @@
 //! Makes tables at random: valid ones, ones with a fault at an edge, ones cut short.
 //!
 //! The makers know the rules of document 01 and of document 02's Asks 1 to 4 only to come near their edges. Whether a table is
-//! right is for the compared programs.
+//! right is for the compared programs. Lists of entries to write are made in a file of their own.
 
 use second::os2::{size, FIELDS};
 
+use crate::entries::List;
 use crate::numbers::Numbers;
 
-/// What is made: a table, 48 numbers to write, or two tables to compare.
+/// What is made: a table, 48 numbers or a list of entries to write, or two tables to compare.
 #[derive(Clone)]
 pub enum Made {
     Name(Vec<u8>),
     Os2(Vec<u8>),
     Numbers(Box<[i64; 48]>),
+    Entries(List),
     NamePair(Vec<u8>, Vec<u8>),
     Os2Pair(Vec<u8>, Vec<u8>),
 }
@@ -329,7 +331,7 @@ fn keys(n: &mut Numbers, tagged: bool, tags: usize) -> Vec<Key> {
     keys
 }
 
-fn platform(n: &mut Numbers) -> u16 {
+pub fn platform(n: &mut Numbers) -> u16 {
     match n.below(4) {
         0 => n.pick(&[0, 1, 2, 3, 4]),
         1 => n.pick(&[239, 240, 241, 254, 255, 256]),
@@ -339,7 +341,7 @@ fn platform(n: &mut Numbers) -> u16 {
 }
 
 /// A language number, often about 0x8000 or 0x8000 and the tag count.
-fn language(n: &mut Numbers, tags: usize) -> u16 {
+pub fn language(n: &mut Numbers, tags: usize) -> u16 {
     let about = match n.below(4) {
         0 => return n.pick(&[0, 1, 0x408, 0x409, 0x40A]),
         1 => 0x8000,
@@ -611,7 +613,7 @@ fn name_fault(n: &mut Numbers, plan: &mut Plan) {
 }
 
 /// A key below this one, as far as its part that is lowered is not 0. A later part doesn't outweigh it.
-fn lower_key(n: &mut Numbers, mut key: Key) -> Key {
+pub fn lower_key(n: &mut Numbers, mut key: Key) -> Key {
     let part = n.below(4);
     key[part] = key[part].saturating_sub(n.pick(&[1, 1, 2, 256]));
     if part < 3 && n.chance(1, 2) {

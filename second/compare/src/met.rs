@@ -1,5 +1,5 @@
-//! What comparisons of two tables and questions on 'name' tables have met. A long run at random has to meet every one of these
-//! things.
+//! What comparisons of two tables, questions on 'name' tables and the writer of 'name' tables have met. A long run at random
+//! has to meet every one of these things. Those of the writer are in a file of their own.
 
 use std::collections::BTreeMap;
 use std::fmt;
@@ -12,6 +12,7 @@ use crate::faults::{self, Front, Place, Record, Refused};
 use crate::pair::{Of, Pair, LEVELS_ABOVE};
 use crate::question::{Function, Question, Words};
 use crate::records::{POSTSCRIPT, VERSION};
+use crate::write_met;
 
 /// The fields that are not in every version.
 const LATER_FIELDS: std::ops::Range<u32> = 39..48;
@@ -341,6 +342,8 @@ pub enum Thing {
     OnePresent(u16, usize),
     /// In a table of this format a version number is refused by 25 because of this record, which is not record 0.
     NoNumber(u16, Used),
+    /// The writer of 'name' tables met this.
+    Write(write_met::Thing),
 }
 
 /// The word for a side.
@@ -520,6 +523,7 @@ impl fmt::Display for Thing {
                     "{title}: format {format}, no record beside 25 of {words}"
                 )
             }
+            Thing::Write(thing) => thing.fmt(f),
         }
     }
 }
@@ -598,6 +602,7 @@ pub fn all() -> Vec<Thing> {
     ]);
     of_records(&mut things);
     of_answers(&mut things);
+    things.extend(write_met::all().into_iter().map(Thing::Write));
     things
 }
 

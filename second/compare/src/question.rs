@@ -1,4 +1,4 @@
-//! The questions on a table or on two, and the words of an answer.
+//! The questions on a table, and the words of an answer.
 
 use std::fmt;
 
@@ -23,7 +23,7 @@ pub enum Question {
     OpticalSizes(u32),
 }
 
-/// Which of the sixteen functions a call is of.
+/// Which of the seventeen functions a call is of.
 #[derive(Clone, Copy, Debug, PartialEq, Eq, PartialOrd, Ord)]
 pub enum Function {
     NameCheck,
@@ -40,12 +40,13 @@ pub enum Function {
     OpticalSizes,
     Write,
     Rewrite,
+    NameWrite,
     Os2Compare,
     NameCompare,
 }
 
 /// The functions in the order of the header.
-pub const FUNCTIONS: [Function; 16] = [
+pub const FUNCTIONS: [Function; 17] = [
     Function::NameCheck,
     Function::Lookup,
     Function::PostScript,
@@ -60,6 +61,7 @@ pub const FUNCTIONS: [Function; 16] = [
     Function::OpticalSizes,
     Function::Write,
     Function::Rewrite,
+    Function::NameWrite,
     Function::Os2Compare,
     Function::NameCompare,
 ];
@@ -82,6 +84,7 @@ impl Function {
             Function::OpticalSizes => "optical sizes",
             Function::Write => "write",
             Function::Rewrite => "rewrite",
+            Function::NameWrite => "name write",
             Function::Os2Compare => "OS/2 compare",
             Function::NameCompare => "name compare",
         }
@@ -100,7 +103,7 @@ impl Function {
             Function::Rights => &["kind", "rights"],
             Function::StylePosition => &["kind", "weight bits", "width bits"],
             Function::OpticalSizes => &["kind", "sizes", "lower bits", "upper bits"],
-            Function::Write | Function::Rewrite => &["size"],
+            Function::Write | Function::Rewrite | Function::NameWrite => &["size"],
             Function::Os2Compare | Function::NameCompare => &["side", "rows"],
         }
     }
@@ -120,6 +123,7 @@ impl Function {
             | Function::OpticalSizes => &[1, 2, 3],
             Function::Write => &[3, 4, 5, 8],
             Function::Rewrite => &[2, 3, 4, 5],
+            Function::NameWrite => &[17, 18, 19, 30, 31, 32, 33],
             Function::Os2Compare => &[1, 2, 3, 29],
             Function::NameCompare => &[10, 11, 12, 13, 14, 15, 16, 17, 18, 19, 27, 29],
         }

@@ -1,6 +1,8 @@
 //! The archive's answers, word by word, through an extern block of its own that follows `include/gyalvindor.h`. So members
 //! that a caller is not meant to look at are seen too.
 
+use std::mem::size_of;
+
 use crate::question::{Question, Words};
 
 #[repr(C)]
@@ -70,6 +72,23 @@ struct Compared {
     rows: usize,
 }
 
+/// An entry to write. The bytes that stand behind its last member, and that mean nothing, can be filled here.
+#[repr(C)]
+#[derive(Clone, Copy, PartialEq)]
+pub struct Entry {
+    pub platform: u16,
+    pub encoding: u16,
+    pub language: u16,
+    pub name: u16,
+    pub start: usize,
+    pub length: u16,
+    pub rest: [u8; REST],
+}
+
+/// How many bytes stand there: an entry's length is a multiple of its start's.
+pub const REST: usize = size_of::<usize>() - size_of::<u16>();
+const _: () = assert!(size_of::<Entry>() == 8 + 2 * size_of::<usize>());
+
 extern "C" {
     fn gv_name_check(table: *const u8, length: usize) -> Refusal;
     fn gv_name_lookup(table: *const u8, length: usize, p: u32, e: u32, l: u32, n: u32) -> Text;
@@ -85,6 +104,14 @@ extern "C" {
     fn gv_os2_optical_sizes(table: *const u8, length: usize, level: u32) -> Optical;
     fn gv_os2_write(numbers: *const i64, room: *mut u8, length: usize) -> Written;
     fn gv_os2_rewrite(table: *const u8, size: usize, room: *mut u8, length: usize) -> Written;
+    fn gv_name_write(
+        entries: *const Entry,
+        count: usize,
+        pool: *const u8,
+        pool_length: usize,
+        room: *mut u8,
+        length: usize,
+    ) -> Written;
     fn gv_os2_compare(
         left: *const u8,
         left_length: usize,
@@ -202,6 +229,23 @@ pub fn rewrite(table: &[u8], room: &mut [u8]) -> Words {
     // SAFETY: the table lends `len()` readable bytes, the room `len()` writable bytes that nothing else refers to, so they
     // do not overlap; no pointer is null.
     let w = unsafe { gv_os2_rewrite(table.as_ptr(), table.len(), room.as_mut_ptr(), room.len()) };
+    with(w.refusal, [w.size as u64, 0, 0, 0])
+}
+
+/// The words that the archive's writer of 'name' tables answers.
+pub fn name_write(entries: &[Entry], pool: &[u8], room: &mut [u8]) -> Words {
+    // SAFETY: the entries lend `len()` readable structs, the pool `len()` readable bytes, the room `len()` writable bytes that
+    // nothing else refers to, so it overlaps neither; no pointer is null, and any numbers may stand in an entry.
+    let w = unsafe {
+        gv_name_write(
+            entries.as_ptr(),
+            entries.len(),
+            pool.as_ptr(),
+            pool.len(),
+            room.as_mut_ptr(),
+            room.len(),
+        )
+    };
     with(w.refusal, [w.size as u64, 0, 0, 0])
 }
 

@@ -30,8 +30,8 @@ impl Row {
 /// Of a 'name' table of so many bytes not everything is asked.
 const LARGE: usize = 10_000;
 
-/// Asks everything of one row's table, after the answers that the papers give, and compares it with itself. Of a large table
-/// some keys are looked up.
+/// Asks everything of one row's table, after the answers that the papers give, compares it with itself, and writes the records
+/// of a 'name' table. Of a large table some keys are looked up.
 pub fn ask(asker: &mut Asker, row: &Row) -> Result<(), Difference> {
     for &(question, expected) in &row.answers {
         let words = asker.ask(&row.table, question)?;
@@ -52,7 +52,8 @@ pub fn ask(asker: &mut Asker, row: &Row) -> Result<(), Difference> {
                 false => Amount::Some,
             };
             asker.name(&table, amount, &mut numbers)?;
-            asker.name_pair(&table, &table, amount, &mut numbers)
+            asker.name_pair(&table, &table, amount, &mut numbers)?;
+            asker.rewriting(&table, amount, &mut numbers)
         }
         Made::Os2(table) => {
             asker.os2(&table, Amount::Everything, &mut numbers)?;

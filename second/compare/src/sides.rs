@@ -121,6 +121,13 @@ pub mod by_second {
         of(os2::rewrite(table, room), |size| [size as u64, 0, 0, 0])
     }
 
+    /// The words that the second program's writer of 'name' tables makes.
+    pub fn name_write(entries: &[name::Entry], pool: &[u8], room: &mut [u8]) -> Words {
+        of(name::write(entries, pool, room), |size| {
+            [size as u64, 0, 0, 0]
+        })
+    }
+
     fn with_side(refused: Refused) -> (u64, Words) {
         let side = match refused.side {
             None => 0,
@@ -226,6 +233,13 @@ pub mod by_crate {
     /// The words that the crate's rewriting makes.
     pub fn rewrite(table: &[u8], room: &mut [u8]) -> Words {
         of(os2::rewrite(table, room), |size| [size as u64, 0, 0, 0])
+    }
+
+    /// The words that the crate's writer of 'name' tables makes.
+    pub fn name_write(entries: &[name::Entry], pool: &[u8], room: &mut [u8]) -> Words {
+        of(name::write(entries, pool, room), |size| {
+            [size as u64, 0, 0, 0]
+        })
     }
 
     fn with_side(refused: CompareRefusal) -> (u64, Words) {

@@ -4,16 +4,17 @@ use std::fmt::Write;
 
 use crate::met::{self, Edge, Met, Thing, FOUND_NUMBERS, SPOTS, USED};
 use crate::question::{Function, Words, FUNCTIONS};
+use crate::write_met::{self, Kind, Rewriting};
 
 /// One more than the highest refusal number.
-const NUMBERS: usize = 30;
+const NUMBERS: usize = 34;
 /// The bits of the nine width percents.
 const WIDTHS: [f32; 9] = [50.0, 62.5, 75.0, 87.5, 100.0, 112.5, 125.0, 150.0, 200.0];
 /// The settings of fsType bits 1 to 3 with two or three of them.
 const TOGETHER: [i64; 4] = [6, 10, 12, 14];
 
 /// The counts of one function.
-#[derive(Clone, Copy, Default)]
+#[derive(Clone, Copy)]
 struct Row {
     calls: u64,
     /// By refusal number; 0 is no refusal.
@@ -28,10 +29,23 @@ struct Row {
     together: [u64; 6],
 }
 
+impl Default for Row {
+    fn default() -> Row {
+        Row {
+            calls: 0,
+            numbers: [0; NUMBERS],
+            kinds: [0; 4],
+            bits: [0; 2],
+            rule_4: [0; 6],
+            together: [0; 6],
+        }
+    }
+}
+
 /// The counts of a run or of a part of it.
 #[derive(Clone, Default)]
 pub struct Tally {
-    rows: [Row; 16],
+    rows: [Row; 17],
     /// By the rule that refusal 3 carries.
     rules: [u64; 8],
     /// By the field that refusal 8 carries.
@@ -48,9 +62,13 @@ pub struct Tally {
     pub os2s: [u64; 3],
     /// Sets of 48 numbers to write, and those written.
     pub writes: [u64; 2],
+    /// Lists of entries to write, and those written.
+    pub lists: [u64; 2],
+    /// Tables whose records were given as entries, and those written.
+    pub rewritings: [u64; 2],
     /// Pairs of 'name' tables, and pairs of 'OS/2' tables at a level.
     pub pairs: [u64; 2],
-    /// What the comparisons of two tables and the questions on 'name' tables met.
+    /// What the comparisons of two tables, the questions on 'name' tables and the writer of 'name' tables met.
     pub met: Met,
 }
 
@@ -165,6 +183,8 @@ impl Tally {
         each(&mut self.names, &other.names);
         each(&mut self.os2s, &other.os2s);
         each(&mut self.writes, &other.writes);
+        each(&mut self.lists, &other.lists);
+        each(&mut self.rewritings, &other.rewritings);
         each(&mut self.pairs, &other.pairs);
         self.met.add_all(&other.met);
     }
@@ -177,14 +197,18 @@ impl Tally {
     /// One line on the tables.
     pub fn tables(&self) -> String {
         format!(
-            "{} name tables ({} accepted), {} OS/2 tables ({} accepted at level 5, {} at some level), {} sets of 48 numbers ({} written), {} pairs of name tables, {} pairs of OS/2 tables at a level",
+            "{} name tables ({} accepted, the records of {} given as entries, {} of them written), {} OS/2 tables ({} accepted at level 5, {} at some level), {} sets of 48 numbers ({} written), {} lists of entries ({} written), {} pairs of name tables, {} pairs of OS/2 tables at a level",
             self.names[0],
             self.names[1],
+            self.rewritings[0],
+            self.rewritings[1],
             self.os2s[0],
             self.os2s[1],
             self.os2s[2],
             self.writes[0],
             self.writes[1],
+            self.lists[0],
+            self.lists[1],
             self.pairs[0],
             self.pairs[1]
         )
@@ -328,13 +352,38 @@ impl Tally {
             used[2].iter().sum::<u64>(),
             used[1][0] + used[2][0]
         );
+        let written = |thing| self.met.times(Thing::Write(thing));
+        let kind = |kind| written(write_met::Thing::Kind(kind));
+        let _ = writeln!(
+            lines,
+            "  tables written from entries: without entries {}, 5,460 entries {}, texts that overlap {}, the same text twice {}, offset 65,535 {}, more than 65,536 bytes {}",
+            kind(Kind::NoEntries),
+            kind(Kind::MostEntries),
+            kind(Kind::Overlapping),
+            kind(Kind::SamePlace),
+            [false, true]
+                .map(|empty| written(write_met::Thing::LastOffset(empty)))
+                .iter()
+                .sum::<u64>(),
+            kind(Kind::Long)
+        );
+        let records = |rewriting| written(write_met::Thing::Rewriting(rewriting));
+        let _ = writeln!(
+            lines,
+            "  records of tables given as entries: to a shorter table {}, as long {}, longer {}; refused by 32 {}, by 33 {}",
+            records(Rewriting::Shrinks),
+            records(Rewriting::Keeps),
+            records(Rewriting::Grows),
+            records(Rewriting::TooFar),
+            records(Rewriting::NoRoom)
+        );
         let rarest = met::all()
             .into_iter()
             .min_by_key(|&thing| self.met.times(thing));
         if let Some(thing) = rarest {
             let _ = writeln!(
                 lines,
-                "  of {} things of comparisons, of records and of answers that are to be met, the rarest was met {} times: {thing}",
+                "  of {} things of comparisons, of records, of answers and of tables to write that are to be met, the rarest was met {} times: {thing}",
                 met::all().len(),
                 self.met.times(thing)
             );
