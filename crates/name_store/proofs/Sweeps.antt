@@ -88,9 +88,9 @@ module _ (es : List Entry) (pool room : List ℕ) (sixteen : Entries es) where
 
   -- what the two sweeps leave: a refusal and the room as it was, or the table and its length
   pub data Ends : Type 0 where
-    stops : (x : Refusal) → unwritten es p r ≡ some x → Stops (checkedAll es pool room) x → Ends
-    lacks : unwritten es p r ≡ some (bare 33) → checkedAll es pool room ≡ (room, checkedTo es (length es)) → r < sizeFor es → Ends
-    writes : unwritten es p r ≡ none → checkedAll es pool room ≡ (room, checkedTo es (length es)) → sizeFor es ≤ r → SoundBelow es p (length es) → Ends
+    ends-refused : (x : Refusal) → unwritten es p r ≡ some x → Stops (checkedAll es pool room) x → Ends
+    ends-short : unwritten es p r ≡ some (bare 33) → checkedAll es pool room ≡ (room, checkedTo es (length es)) → r < sizeFor es → Ends
+    ends-written : unwritten es p r ≡ none → checkedAll es pool room ≡ (room, checkedTo es (length es)) → sizeFor es ≤ r → SoundBelow es p (length es) → Ends
 
   starts : length es ≤ 5460 → _≡_ {A = State} (room, started (length es)) (room, checkedTo es 0)
   unfolding offsetFor
@@ -116,15 +116,15 @@ module _ (es : List Entry) (pool room : List ℕ) (sixteen : Entries es) where
       at : (a : Bool) → tooMany es ≡ a → (o : Option Refusal) → firstOf (entryFault es p) (length es) ≡ o → (c : Bool) → noRoom es r ≡ c → Ends
       at true e o f c g =
           let m = start-many (length es) (too-many es .0 e) in
-          stops (bare 30) (here _ _ _ e)
+          ends-refused (bare 30) (here _ _ _ e)
           (idle (length es) _ _ (rw m stopped-many))
       at false e (some x) f c g =
-          stops x (past _ _ _ e ∙ first-here _ f)
+          ends-refused x (past _ _ _ e ∙ first-here _ f)
           (subst (λ (s : State). Stops (sweep es pool (length es) s) x) (sym (starts (not-many es .0 e))) (one-refused pool es room sixteen (length es) x (omega arith) f))
       at false e none f true g =
-          lacks (past _ _ _ e ∙ first-past _ f ∙ when-some _ _ _ .1 (g, refl)) (swept (not-many es .0 e) f) (short es r .0 g)
+          ends-short (past _ _ _ e ∙ first-past _ f ∙ when-some _ _ _ .1 (g, refl)) (swept (not-many es .0 e) f) (short es r .0 g)
       at false e none f false g =
-          writes (past _ _ _ e ∙ first-past _ f ∙ when-none _ _ .1 g) (swept (not-many es .0 e) f) (enough es r .0 g)
+          ends-written (past _ _ _ e ∙ first-past _ f ∙ when-none _ _ .1 g) (swept (not-many es .0 e) f) (enough es r .0 g)
           (sound-below es p (not-many es .0 e) (length es) (first-all _ _ .0 f))
 
   -- ---- what is said, and what is left
@@ -158,8 +158,8 @@ module _ (es : List Entry) (pool room : List ℕ) (sixteen : Entries es) where
   unfolding offsetFor
   fronts l = begin-room (room, checkedTo es (length es)) refl l
 
-  begun-stops : (s : State) (x : Refusal) → Stops s x → Stops (begun s) x
-  begun-stops s x t = rw (begin-other s (not-checking pool es room sixteen s x t)) t
+  begun-refused : (s : State) (x : Refusal) → Stops s x → Stops (begun s) x
+  begun-refused s x t = rw (begin-other s (not-checking pool es room sixteen s x t)) t
 
   within : SoundBelow es p (length es) → Within p es (length es)
   within s i l = s .sound i l .inside
@@ -168,9 +168,9 @@ module _ (es : List Entry) (pool room : List ℕ) (sixteen : Entries es) where
   kept-word = by ends
     where
       by : Ends → Kept (writtenAll es pool room)
-      by (stops x e t) = kept-refused _ x e (idle (length es) _ x (begun-stops _ x t))
-      by (lacks e q l) = kept-refused _ (bare 33) e (idle (length es) _ _ (subst (λ (s : State). Stops (begun s) (bare 33)) (sym q) (lacking l)))
-      by (writes e q l s) =
+      by (ends-refused x e t) = kept-refused _ x e (idle (length es) _ x (begun-refused _ x t))
+      by (ends-short e q l) = kept-refused _ (bare 33) e (idle (length es) _ _ (subst (λ (s : State). Stops (begun s) (bare 33)) (sym q) (lacking l)))
+      by (ends-written e q l s) =
           subst Kept (sym (ap (λ (t : State). sweep es pool (length es) (begun t)) q ∙ ap (sweep es pool (length es)) (fronts l)
           ∙ all-put pool es room lastKey (within s) (length es) (omega arith)))
           (kept-written (within s) lastKey e l)
@@ -198,6 +198,6 @@ module _ (es : List Entry) (pool room : List ℕ) (sixteen : Entries es) where
   safe-second = by ends
     where
       by : Ends → Ready es pool (begun (checkedAll es pool room) .0) (begun (checkedAll es pool room) .1)
-      by (stops x e t) = safe-stopped _ x (begun-stops _ x t)
-      by (lacks e q l) = safe-stopped _ (bare 33) (subst (λ (s : State). Stops (begun s) (bare 33)) (sym q) (lacking l))
-      by (writes e q l s) = subst (λ (t : State). Ready es pool (t .0) (t .1)) (sym (ap begun q ∙ fronts l)) (safe-put l s)
+      by (ends-refused x e t) = safe-stopped _ x (begun-refused _ x t)
+      by (ends-short e q l) = safe-stopped _ (bare 33) (subst (λ (s : State). Stops (begun s) (bare 33)) (sym q) (lacking l))
+      by (ends-written e q l s) = subst (λ (t : State). Ready es pool (t .0) (t .1)) (sym (ap begun q ∙ fronts l)) (safe-put l s)
