@@ -13,10 +13,10 @@ use Rattle.outcomes.specs.Outcomes.{Refusal, Outcome, refused, refusing}
 use Rattle.outcomes.proofs.Laws.{when-none, when-some, passed, met, first-all, first-exactly, passed-on, not-refused, here, past, first-here, first-past}
 use Rattle.outcomes.proofs.Tests.{holds}
 use Rattle.name_store.specs.declared.Entry.{Entry}
-use Rattle.name_store.specs.Entries.{entryAt, textEnd, sizeFor}
+use Rattle.name_store.specs.Entries.{entryAt, textEnd}
 use Rattle.name_store.specs.Writing.{tooMany, passesPool, languageBad, belowBefore, equalsBefore, tooFar, noRoom, entryFault, unwritten, writeOf}
 use Rattle.name_store.specs.WriteSettled as settled
-use Rattle.name_store.specs.WriteSettled.{Allowed, Above, Sound, SoundBelow, WriteSettled}
+use Rattle.name_store.specs.WriteSettled.{Allowed, Sound, SoundBelow, WriteSettled}
 use Rattle.name_store.proofs.Bounds as tests
 use Rattle.name_store.proofs.Bounds.{inside-pool, past-pool, language-allowed, not-many, near, far, enough, short, above, first-above, key-below, key-equal, equal-not-below}
 

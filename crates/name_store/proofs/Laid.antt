@@ -1,19 +1,19 @@
 -- The bytes of the table are the table of the entries: each number and each string stands where it should.
 -- Assumes nothing.
-use Prim.Native.Nat.{ℕ, zero, suc, _+_, _*_, _/_, _%_, _≤_, _<_}
+use Prim.Native.Nat.{ℕ, zero, suc, _+_, _*_, _≤_, _<_}
 use mathlib.Core.Path.{_≡_, refl, sym, _∙_, ap}
 use mathlib.Core.Logic.{⊎-elim}
-use mathlib.Core.List.{List, [], _∷_, _++_, append-assoc}
+use mathlib.Core.List.{List, [], _++_, append-assoc}
 use native.Mathlib.Nat.{not-suc-le-zero, le-of-suc-le-suc, eq-or-lt-of-le, div-add-mod'}
 use native.Mathlib.Omega.{arith}
-use lib.ListN.{length, take, drop, getD, length-append, length-take, length-drop, List·getD-append}
-use lib.Seq.{getD-append-add, getD-drop, take-at, drop-at, take-append-le, drop-append-le, drop-drop, take-all}
-use Rattle.bigendian.specs.Numbers.{number, Bytes}
+use lib.ListN.{length, take, drop, length-append, length-take, length-drop, List·getD-append}
+use lib.Seq.{getD-append-add, drop-at, take-append-le, drop-append-le, drop-drop, take-all}
+use Rattle.bigendian.specs.Numbers.{number}
 use Rattle.bigendian.proofs.Laws.{number-2, number-same}
-use Rattle.name_layout.specs.Layout.{format, count, storage, recordAt, textAt, part, stringLength, stringOffset, bytesOf}
+use Rattle.name_layout.specs.Layout.{recordAt, textAt, part, stringLength, stringOffset, bytesOf}
 use Rattle.name_layout.specs.Keys.{keyOf}
 use Rattle.name_store.specs.declared.Entry.{Entry}
-use Rattle.name_store.specs.Entries.{entryAt, keyFor, textEnd, textFor, offsetFor, sizeFor, Sixteen, Entries}
+use Rattle.name_store.specs.Entries.{entryAt, keyFor, textEnd, textFor, offsetFor, sizeFor}
 use Rattle.name_store.specs.Tables.{TableOf, two, frontFor, recordFor, recordsOf, stringsOf, tableOf}
 
 -- the texts of the first n entries lie within the pool

@@ -8,7 +8,7 @@ use native.Mathlib.Omega.{arith}
 use lib.ListN.{length, take, drop}
 use lib.Seq.{take-at, drop-at, getD-drop}
 use Rattle.bigendian.specs.Numbers.{Bytes}
-use Rattle.outcomes.specs.Outcomes.{Refusal, Outcome, refused, answered}
+use Rattle.outcomes.specs.Outcomes.{Refusal, refused, answered}
 use Rattle.outcomes.proofs.Laws.{when-none, then-none, passed, first-all, unless-answered, unless-refused}
 use Rattle.name_layout.specs.Layout.{recordAt}
 use Rattle.name_store.specs.declared.Entry.{Entry}

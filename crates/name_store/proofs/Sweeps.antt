@@ -1,6 +1,6 @@
 -- The two sweeps give what is said and what is left, and every visit of them is safe.
 -- Assumes nothing.
-use Prim.Native.Nat.{ℕ, zero, suc, _+_, _≤_, _<_}
+use Prim.Native.Nat.{ℕ, zero, suc, _≤_, _<_}
 use mathlib.Core.Path.{_≡_, refl, sym, _∙_, ap, subst}
 use mathlib.Core.Bool.{Bool, true, false}
 use mathlib.Core.Option.{Option, none, some}
@@ -12,13 +12,12 @@ use lib.Seq.{length-sets}
 use Rattle.outcomes.specs.Firsts.{when, _then_, firstOf}
 use Rattle.outcomes.specs.Outcomes.{Refusal, bare}
 use Rattle.outcomes.proofs.Laws.{when-none, when-some, first-all, here, past, first-here, first-past, passed-on, not-refused, Only, only-when, only-then}
-use Rattle.name_layout.specs.Layout.{recordAt}
 use Rattle.name_store.specs.declared.Entry.{Entry}
 use Rattle.name_store.specs.declared.Work.{Work}
 use Rattle.name_store.specs.Entries.{entryAt, offsetFor, sizeFor, Entries}
 use Rattle.name_store.specs.Tables.{tableOf}
 use Rattle.name_store.specs.Writing.{tooMany, noRoom, entryFault, unwritten, writeOf, roomWith, roomAfter}
-use Rattle.name_store.specs.Sweeps.{State, workAt, faultOf, checkedWith, visited, sweep, started, begun, stageSays, finished, checkedAll, writtenAll, Puts, Safe, Ready}
+use Rattle.name_store.specs.Sweeps.{State, workAt, faultOf, checkedWith, visited, sweep, started, begun, stageSays, finished, checkedAll, writtenAll, Safe, Ready}
 use Rattle.name_store.specs.WriteSettled.{SoundBelow}
 use Rattle.name_store.proofs.Bounds.{not-many, too-many, enough, short}
 use Rattle.name_store.proofs.Exactly.{sound-below}

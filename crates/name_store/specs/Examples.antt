@@ -3,15 +3,21 @@
 use Prim.Native.Nat.{ℕ, zero, suc}
 use mathlib.Core.Path.{_≡_}
 use mathlib.Core.Option.{none, some}
-use mathlib.Core.List.{List, [], _∷_}
+use mathlib.Core.List.{List, [], _∷_, _++_}
+use lib.ListN.{length}
 use Rattle.outcomes.specs.Outcomes.{refused, answered}
 use Rattle.name_store.specs.declared.Entry.{Entry}
+use Rattle.name_store.specs.Entries.{textFor}
 use Rattle.name_store.specs.Tables.{tableOf}
 use Rattle.name_store.specs.Writing.{writeOf, roomAfter}
 
 -- an entry by its platform, language, name, start and length; its encoding is 1
 abbrev entry : ℕ → ℕ → ℕ → ℕ → ℕ → Entry
 entry p l n s len = record { platform = p; encoding = 1; language = l; name = n; start = s; length = len }
+
+-- one by its encoding and language
+abbrev spoken : ℕ → ℕ → Entry
+spoken c l = record { platform = 3; encoding = c; language = l; name = 1; start = 0; length = 0 }
 
 -- one on platform 3 in language 0x409
 abbrev english : ℕ → ℕ → ℕ → Entry
@@ -39,6 +45,11 @@ threeBytes =
     0 ∷ 3 ∷ 0 ∷ 1 ∷ 4 ∷ 9 ∷ 0 ∷ 6 ∷ 0 ∷ 0 ∷ 0 ∷ 6 ∷
     66 ∷ 67 ∷ 68 ∷ 69 ∷ 67 ∷ 68 ∷ []
 
+-- so many bytes of a room
+abbrev nines : ℕ → List ℕ
+nines zero = []
+nines (suc n) = 9 ∷ nines n
+
 -- one text twice
 abbrev twice : List Entry
 twice = english 1 0 2 ∷ english 2 0 2 ∷ []
@@ -48,10 +59,17 @@ pub record TablesWritten : Type 0 where
   -- "nothing shared"
   pub of-twice : tableOf pool twice ≡
       0 ∷ 0 ∷ 0 ∷ 2 ∷ 0 ∷ 30 ∷ 0 ∷ 3 ∷ 0 ∷ 1 ∷ 4 ∷ 9 ∷ 0 ∷ 1 ∷ 0 ∷ 2 ∷ 0 ∷ 0 ∷ 0 ∷ 3 ∷ 0 ∷ 1 ∷ 4 ∷ 9 ∷ 0 ∷ 2 ∷ 0 ∷ 2 ∷ 0 ∷ 2 ∷ 65 ∷ 66 ∷ 65 ∷ 66 ∷ []
+  -- an odd number of bytes
+  pub of-odd : tableOf pool (english 1 5 1 ∷ []) ≡ 0 ∷ 0 ∷ 0 ∷ 1 ∷ 0 ∷ 18 ∷ 0 ∷ 3 ∷ 0 ∷ 1 ∷ 4 ∷ 9 ∷ 0 ∷ 1 ∷ 0 ∷ 1 ∷ 0 ∷ 0 ∷ 70 ∷ []
   pub of-none : tableOf [] [] ≡ 0 ∷ 0 ∷ 0 ∷ 0 ∷ 0 ∷ 6 ∷ []
   -- in a room of eight bytes, and in one of five
   pub room-of-none : roomAfter [] [] (91 ∷ 92 ∷ 93 ∷ 94 ∷ 95 ∷ 96 ∷ 97 ∷ 98 ∷ []) ≡ 0 ∷ 0 ∷ 0 ∷ 0 ∷ 0 ∷ 6 ∷ 97 ∷ 98 ∷ []
   pub room-of-five : roomAfter [] [] (91 ∷ 92 ∷ 93 ∷ 94 ∷ 95 ∷ []) ≡ 91 ∷ 92 ∷ 93 ∷ 94 ∷ 95 ∷ []
+  -- with bytes past the table, and with a fault at the second entry
+  pub room-of-three : roomAfter three pool (nines 50) ≡ threeBytes ++ (9 ∷ 9 ∷ [])
+  pub room-of-fault : roomAfter (english 1 0 1 ∷ english 1 0 1 ∷ []) pool (nines 50) ≡ nines 50
+  -- the start "isn't limited": b is the text of any entry that starts where b does and is as long
+  pub of-part : (a b c : List ℕ) → textFor (a ++ (b ++ c)) (english 1 (length a) (length b)) ≡ b
 
 -- ---- what is answered: entries, the pool's length, the room's length
 
@@ -61,14 +79,18 @@ pub record Answers : Type 0 where
   pub one-short : writeOf three 6 47 ≡ refused 33 none
   pub none-enough : writeOf [] 0 6 ≡ answered 6
   pub none-short : writeOf [] 0 5 ≡ refused 33 none
+  pub odd : writeOf (english 1 5 1 ∷ []) 6 19 ≡ answered 19
+  pub much-room : writeOf [] 0 18446744069414584320 ≡ answered 6
   -- 30
   pub too-many : writeOf (many 5461) 0 0 ≡ refused 30 none
+  pub not-too-many : writeOf (many 5460) 0 0 ≡ refused 31 (some 0)
   -- 31: "start plus length past the pool's end", with a start that "isn't limited"
   pub at-end : writeOf (english 1 4 2 ∷ []) 6 20 ≡ answered 20
   pub past-end : writeOf (english 1 4 3 ∷ []) 6 99 ≡ refused 31 (some 0)
   pub empty-at-end : writeOf (english 1 6 0 ∷ []) 6 18 ≡ answered 18
   pub empty-past-end : writeOf (english 1 7 0 ∷ []) 6 99 ≡ refused 31 (some 0)
   pub no-pool : writeOf (english 1 0 0 ∷ []) 0 18 ≡ answered 18
+  pub far-start : writeOf (english 1 18446744069414584320 1 ∷ []) 18446744069414584321 19 ≡ answered 19
   pub no-wrapping : writeOf (english 1 18446744073709551615 1 ∷ []) 6 99 ≡ refused 31 (some 0)
   pub no-wrapping-over : writeOf (english 1 18446744073709551613 65535 ∷ []) 70000 99 ≡ refused 31 (some 0)
   -- 18
@@ -82,6 +104,8 @@ pub record Answers : Type 0 where
   pub key-below : writeOf (english 2 0 1 ∷ english 1 0 1 ∷ []) 6 99 ≡ refused 17 (some 1)
   pub key-equal : writeOf (english 2 0 1 ∷ english 2 1 2 ∷ []) 6 99 ≡ refused 19 (some 1)
   pub platform-first : writeOf (entry 3 1 1 0 1 ∷ entry 1 2 2 0 1 ∷ []) 6 99 ≡ refused 17 (some 1)
+  pub encoding-first : writeOf (spoken 1 2 ∷ spoken 2 1 ∷ []) 0 30 ≡ answered 30
+  pub encoding-below : writeOf (spoken 2 1 ∷ spoken 1 2 ∷ []) 0 30 ≡ refused 17 (some 1)
   -- 32: the offset of an entry, "above 65,535", an empty text's too; where it ends does not count
   pub offset-65535 : writeOf (english 1 0 65535 ∷ english 2 0 65535 ∷ []) 65535 131100 ≡ answered 131100
   pub offset-65536 : writeOf (english 1 0 65535 ∷ english 2 0 1 ∷ english 3 0 0 ∷ []) 65535 131100 ≡ refused 32 (some 2)

@@ -1,29 +1,28 @@
 -- A table that is written is read as the entries that it was written from, by any check and any lookup that are right.
 -- Assumes nothing.
-use Prim.Native.Nat.{ℕ, suc, _+_, _≤_, _<_}
-use mathlib.Core.Path.{_≡_, refl, sym, _∙_, ap, subst}
+use Prim.Native.Nat.{ℕ, suc, _≤_, _<_}
+use mathlib.Core.Path.{_≡_, refl, sym, _∙_, ap}
 use mathlib.Core.Logic.{inl}
-use mathlib.Core.Option.{Option, none, some}
 use mathlib.Core.List.{List}
 use native.Mathlib.Omega.{arith}
-use lib.ListN.{length, take, drop}
+use lib.ListN.{length}
 use Rattle.bigendian.specs.Numbers.{Bytes}
-use Rattle.outcomes.specs.Outcomes.{Outcome, refused, answered, accepted}
-use Rattle.name_layout.specs.Layout.{format, count, storage, platform, language, recordsEnd, textAt, tagCount, tagAt, tagsEnd, stringStart, stringLength, stringEnd, bytesOf}
-use Rattle.name_layout.specs.Keys.{Key, keyOf, KeyBelow}
+use Rattle.outcomes.specs.Outcomes.{Outcome, answered}
+use Rattle.name_layout.specs.Layout.{count, platform, language, recordsEnd, textAt, tagCount, tagsEnd, stringEnd, bytesOf}
+use Rattle.name_layout.specs.Keys.{Key, keyOf}
 use Rattle.name_layout.proofs.Layouts.{format-0}
 use Rattle.name_tests.specs.Languages.{LanguageAllowed}
 use Rattle.name.specs.Acceptable.{Acceptable, AcceptedExactlyWhen}
 use Rattle.name.specs.Acceptance.{checkOf}
 use Rattle.name.proofs.Theorems.{accepted-exactly-when}
 use Rattle.name_search.specs.declared.Text.{Text}
-use Rattle.name_search.specs.Searches.{HasKey, StringOf, textOf}
+use Rattle.name_search.specs.Searches.{HasKey, textOf}
 use Rattle.name_search.proofs.Finds.{text-is, has-bytes}
 use Rattle.name_lookup.specs.Answers.{lookupOf}
 use Rattle.name_lookup.specs.Exactly.{LookupRight}
 use Rattle.name_lookup.proofs.Theorems.{lookup-right}
 use Rattle.name_store.specs.declared.Entry.{Entry}
-use Rattle.name_store.specs.Entries.{entryAt, keyFor, textFor, offsetFor, Entries}
+use Rattle.name_store.specs.Entries.{entryAt, keyFor}
 use Rattle.name_store.specs.Tables.{TableOf}
 use Rattle.name_store.specs.Writing.{writeOf, roomAfter}
 use Rattle.name_store.specs.WriteSettled.{Allowed, SoundBelow, WriteSettled}
@@ -31,7 +30,7 @@ use Rattle.name_store.specs.WriteSettled as settled
 use Rattle.name_store.specs.Promises.{WriteRight, KeepsBytes}
 use Rattle.name_store.proofs.Laid.{offset-ends}
 use Rattle.name_store.proofs.Right.{bytes-take, write-right, keeps-bytes}
-use Rattle.name_writer.specs.Reading.{Finds, ReadAs, ReadsBack}
+use Rattle.name_writer.specs.Reading.{ReadAs, ReadsBack}
 
 -- ---- where the table of the entries has its numbers
 

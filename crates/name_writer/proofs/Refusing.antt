@@ -1,20 +1,19 @@
 -- The writer's 18, 17 and 19 are the reader's: where nothing else can be wrong, an entry is refused exactly as the record of the table of the entries is.
 -- Assumes nothing.
-use Prim.Native.Nat.{ℕ, suc, _+_, _≤_, _<_}
-use mathlib.Core.Path.{_≡_, refl, sym, _∙_, ap, subst}
-use mathlib.Core.Logic.{inl, _⊎_, ⊎-elim, _↔_, Iff·trans}
-use mathlib.Core.Option.{Option, none, some}
+use Prim.Native.Nat.{ℕ, suc, _≤_, _<_}
+use mathlib.Core.Path.{_≡_, refl, sym, _∙_, subst}
+use mathlib.Core.Logic.{inl, ⊎-elim, _↔_}
+use mathlib.Core.Option.{Option, some}
 use mathlib.Core.List.{List}
 use native.Mathlib.Omega.{arith}
 use lib.ListN.{length}
 use Rattle.outcomes.specs.Outcomes.{Refusal, Outcome, refused}
-use Rattle.name_layout.specs.Layout.{count, textAt, stringStart, stringLength}
+use Rattle.name_layout.specs.Layout.{count}
 use Rattle.name.specs.Refusing as reader
 use Rattle.name.specs.Refusing.{Refused, RefusedExactlyWhen}
 use Rattle.name.specs.Acceptance.{checkOf}
 use Rattle.name.proofs.Refusings.{refused-exactly-when}
 use Rattle.name_store.specs.declared.Entry.{Entry}
-use Rattle.name_store.specs.Entries.{sizeFor}
 use Rattle.name_store.specs.Tables.{TableOf}
 use Rattle.name_store.specs.Writing.{writeOf, roomAfter}
 use Rattle.name_store.specs.WriteSettled as writer

@@ -5,10 +5,10 @@ use mathlib.Core.Path.{_≡_, refl, sym, _∙_, ap, subst}
 use mathlib.Core.Option.{Option, none, some}
 use mathlib.Core.List.{List}
 use native.Mathlib.Omega.{arith}
-use lib.ListN.{length, take, drop}
+use lib.ListN.{length}
 use Rattle.bigendian.specs.Numbers.{Bytes}
-use Rattle.outcomes.specs.Outcomes.{Outcome, refused, answered}
-use Rattle.name_layout.specs.Layout.{format, count, storage, platform, language, textAt, bytesOf}
+use Rattle.outcomes.specs.Outcomes.{Outcome}
+use Rattle.name_layout.specs.Layout.{format, count, platform, language, bytesOf}
 use Rattle.name_layout.specs.Keys.{Key, keyOf, KeyBelow}
 use Rattle.name_layout.proofs.Keys.{key-asymmetric, key-irreflexive}
 use Rattle.name_layout.proofs.Layouts.{tags-after, word-lt}

@@ -1,7 +1,6 @@
 -- One byte more a turn.
 -- Assumes nothing.
-use Prim.Native.Nat.{_+_, _-_}
-use mathlib.Core.Path.{sym}
+use Prim.Native.Nat.{_-_}
 use native.Mathlib.Omega.{arith}
 use Rattle.copying.proofs.Copies.{Copied, none-copied, one-copied, all-copied}
 use Rattle.copying.proofs.copy_bytes.Statement.{statement}
