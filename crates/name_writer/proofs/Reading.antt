@@ -110,6 +110,7 @@ module _ (check : List ℕ → Outcome (Unit {0})) (accepts : AcceptedExactlyWhe
       text = textOf t i;
       found = looks .found t b _ _ .1 (a, (i, has-key pool es t x i l, text-is t i _ .0 refl));
       number = text-is t i _ .0 refl .number;
+      len = text-is t i _ .0 refl .len ∙ x .lengths i l;
       bytes = has-bytes t i refl a (has-key pool es t x i l .inside) .2 ∙ ap (bytesOf t) (text-is t i _ .0 refl .number) ∙ x .copied i l;
     };
     alone = λ k f. looks .missing t b k .1 (a, λ i h. f i (listed pool es t x i (h .inside)) (sym (x .keys i (listed pool es t x i (h .inside))) ∙ h .has));

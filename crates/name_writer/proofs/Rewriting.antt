@@ -8,7 +8,7 @@ use native.Mathlib.Omega.{arith}
 use lib.ListN.{length}
 use Rattle.bigendian.specs.Numbers.{Bytes}
 use Rattle.outcomes.specs.Outcomes.{Outcome}
-use Rattle.name_layout.specs.Layout.{format, count, platform, language, bytesOf}
+use Rattle.name_layout.specs.Layout.{format, count, recordAt, part, platform, language, bytesOf}
 use Rattle.name_layout.specs.Keys.{Key, keyOf, KeyBelow}
 use Rattle.name_layout.proofs.Keys.{key-asymmetric, key-irreflexive}
 use Rattle.name_layout.proofs.Layouts.{tags-after, word-lt}
@@ -55,6 +55,20 @@ module _ (t : List ℕ) (es : List Entry) (bt : Bytes t) (a : Acceptable t) (f :
       subst (λ (k : Key). KeyBelow k (keyFor (entryAt es (suc j)))) (sym (x .keys j (recorded (omega arith))))
       (subst (KeyBelow (keyOf t j)) (sym (x .keys (suc j) (recorded l))) (a .rising j (recorded l)))
 
+  -- a record's numbers have 16 bits
+  sixteen : Entries es
+  unfolding keyOf
+  sixteen i l =
+      let k = x .keys i (recorded l) in
+      let at : (y : ℕ) → part t i y < 65536 = λ y. word-lt t bt (recordAt i + y) in
+      record {
+        platform = subst (λ (y : ℕ). y < 65536) (sym (ap (λ (y : Key). y .platform) k)) (at 0);
+        encoding = subst (λ (y : ℕ). y < 65536) (sym (ap (λ (y : Key). y .encoding) k)) (at 2);
+        language = subst (λ (y : ℕ). y < 65536) (sym (ap (λ (y : Key). y .language) k)) (at 4);
+        name = subst (λ (y : ℕ). y < 65536) (sym (ap (λ (y : Key). y .name) k)) (at 6);
+        length = subst (λ (y : ℕ). y < 65536) (sym (x .lengths i (recorded l))) (at 8);
+      }
+
   -- an entry's text is its record's string
   text-of : (i : ℕ) → i < length es → bytesOf t i ≡ textFor t (entryAt es i)
   unfolding bytesOf textFor
@@ -82,10 +96,11 @@ module _ (t : List ℕ) (es : List Entry) (bt : Bytes t) (a : Acceptable t) (f :
             let g : HasKey u k i = record { inside = let c = y .as-many in omega arith; has = same-key l ∙ h .has } in
             both (looks .found t bt k (textOf t i) .1 (a, (i, h, text-is t i _ .0 refl))) (looks .found u bu k (textOf u i) .1 (b, (i, g, text-is u i _ .0 refl)))
             (text-is t i _ .0 refl .number ∙ sym (text-is u i _ .0 refl .number))
+            (text-is t i _ .0 refl .len ∙ sym (x .lengths i (recorded l)) ∙ sym (y .lengths i l) ∙ sym (text-is u i _ .0 refl .len))
             (has-bytes t i refl a (h .inside) .2 ∙ ap (bytesOf t) (text-is t i _ .0 refl .number) ∙ text-of i l
             ∙ sym (has-bytes u i refl b (g .inside) .2 ∙ ap (bytesOf u) (text-is u i _ .0 refl .number) ∙ y .copied i l))
 
-    module _ (result : List Entry → ℕ → ℕ → Outcome ℕ) (room : List Entry → List ℕ → List ℕ → List ℕ) (right : WriteRight result room) (keeps : KeepsBytes room) (r : List ℕ) (br : Bytes r) (sixteen : Entries es) where
+    module _ (result : List Entry → ℕ → ℕ → Outcome ℕ) (room : List Entry → List ℕ → List ℕ → List ℕ) (right : WriteRight result room) (keeps : KeepsBytes room) (r : List ℕ) (br : Bytes r) where
       rewritten : (o : Outcome ℕ) → WriteSettled es (length t) (length r) o → result es (length t) (length r) ≡ o → Rewritten lookup result room t es r
       rewritten _ (writer.too-many h) e = absurd (let g = few in omega arith)
       rewritten _ (writer.past-pool {i} s l h) e = absurd (let g = inside i l in omega arith)
@@ -100,8 +115,8 @@ module _ (t : List ℕ) (es : List Entry) (bt : Bytes t) (a : Acceptable t) (f :
 
 pub rewrites : (lookup : List ℕ → Key → Outcome Text) → LookupRight lookup → (result : List Entry → ℕ → ℕ → Outcome ℕ) (room : List Entry → List ℕ → List ℕ → List ℕ)
     → WriteRight result room → KeepsBytes room → Rewrites lookup result room
-rewrites lookup looks result room right keeps t es r bt br a f sixteen x =
-    rewritten t es bt a f x lookup looks result room right keeps r br sixteen _ (right .settled es (length t) (length r) _ .0 refl) refl
+rewrites lookup looks result room right keeps t es r bt br a f x =
+    rewritten t es bt a f x lookup looks result room right keeps r br _ (right .settled es (length t) (length r) _ .0 refl) refl
 
 -- ours
 pub written-rewrites : Rewrites lookupOf writeOf roomAfter

@@ -18,6 +18,7 @@ pub record Finds (lookup : List ℕ → Key → Outcome Text) (pool : List ℕ) 
   pub text : Text
   pub found : lookup t (keyFor e) ≡ answered text
   pub number : text .«record» ≡ i
+  pub len : text .len ≡ e .length
   pub bytes : take (text .len) (drop (text .start) t) ≡ textFor pool e
 
 -- t is read as the entries that it was written from

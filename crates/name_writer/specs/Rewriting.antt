@@ -11,7 +11,7 @@ use Rattle.name_layout.specs.Keys.{Key, keyOf}
 use Rattle.name.specs.Acceptable.{Acceptable}
 use Rattle.name_search.specs.declared.Text.{Text}
 use Rattle.name_store.specs.declared.Entry.{Entry}
-use Rattle.name_store.specs.Entries.{entryAt, keyFor, Entries}
+use Rattle.name_store.specs.Entries.{entryAt, keyFor}
 
 -- entry i is record i of the table, and its text lies where the record's string does
 pub record RecordsOf (t : List ℕ) (es : List Entry) : Type 0 where
@@ -20,10 +20,10 @@ pub record RecordsOf (t : List ℕ) (es : List Entry) : Type 0 where
   pub starts : (i : ℕ) → i < count t → entryAt es i .start ≡ stringStart t (textAt i)
   pub lengths : (i : ℕ) → i < count t → entryAt es i .length ≡ stringLength t (textAt i)
 
--- two tables answer a lookup alike: none has the key, or both have it in a record of the same number with the same bytes
+-- two tables answer a lookup alike: none has the key, or both have it in a record of the same number with the same length and bytes
 pub data Alike (lookup : List ℕ → Key → Outcome Text) (t u : List ℕ) (k : Key) : Type 0 where
   neither : lookup t k ≡ refused 20 none → lookup u k ≡ refused 20 none → Alike lookup t u k
-  both : {x y : Text} → lookup t k ≡ answered x → lookup u k ≡ answered y → x .«record» ≡ y .«record» →
+  both : {x y : Text} → lookup t k ≡ answered x → lookup u k ≡ answered y → x .«record» ≡ y .«record» → x .len ≡ y .len →
       take (x .len) (drop (x .start) t) ≡ take (y .len) (drop (y .start) u) → Alike lookup t u k
 
 -- they are refused by 32 or 33 alone, or give a table that answers every lookup with the same bytes
@@ -35,5 +35,5 @@ pub data Rewritten (lookup : List ℕ → Key → Outcome Text) (result : List E
 
 abbrev pub Rewrites : (List ℕ → Key → Outcome Text) → (List Entry → ℕ → ℕ → Outcome ℕ) → (List Entry → List ℕ → List ℕ → List ℕ) → Type 0
 Rewrites lookup result room =
-    (t : List ℕ) (es : List Entry) (r : List ℕ) → Bytes t → Bytes r → Acceptable t → format t ≡ 0 → Entries es → RecordsOf t es →
+    (t : List ℕ) (es : List Entry) (r : List ℕ) → Bytes t → Bytes r → Acceptable t → format t ≡ 0 → RecordsOf t es →
     Rewritten lookup result room t es r
