@@ -377,7 +377,7 @@ pub struct Entry {
 /// entries.swap(0, 1);
 /// assert_eq!(name::write(&entries, pool, &mut room), Err(Refusal::KeyBelow { record: 1 }));
 ///
-/// // No start is too large to be refused.
+/// // A start may be any number; the sum with the length does not wrap.
 /// entries[0].start = usize::MAX;
 /// assert_eq!(name::write(&entries, pool, &mut room), Err(Refusal::TextPassesPool { entry: 0 }));
 ///

@@ -102,6 +102,10 @@ const _: () = assert!(align_of::<os2::Difference>() == align_of::<i64>());
 const _: () = assert!(size_of::<name::Difference>() == 5 * size_of::<u16>());
 const _: () = assert!(align_of::<name::Difference>() == align_of::<u16>());
 
+// An entry is `gv_entry`: four 16-bit numbers, a word, and a 16-bit number.
+const _: () = assert!(size_of::<name::Entry>() == 24);
+const _: () = assert!(align_of::<name::Entry>() == align_of::<usize>());
+
 // SAFETY: these are the seventeen functions of `include/gyalvindor.h`, with the types given there.
 unsafe extern "C" {
     fn gv_name_check(table: *const u8, length: usize) -> Refusal;

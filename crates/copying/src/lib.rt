@@ -1,6 +1,6 @@
 // Bytes copied from one lent slice into another: so many, from a place on, to a place. The callers are our own crates, which show that the bytes are there.
-// Nothing tells the compiler that the two slices do not overlap. It copies 32 bytes a turn where there are as many, and a block is read whole before it is
-// stored, so that it is one load and one store.
+// Nothing tells the compiler that the two slices do not overlap. Of a loop over single bytes it makes one that copies 32 a turn, where there are as many, with
+// a slow end; so the end is copied by blocks, each read whole before it is stored, which makes one load and one store of it.
 ghost use mathlib.Core.Path.{_≡_};
 ghost use Prim.Native.Nat.{_+_, _≤_};
 ghost use lib.ListN.{length, take, drop};

@@ -17,7 +17,7 @@ use Rattle.name_store.specs.declared.Work.{Work}
 use Rattle.name_store.specs.Entries.{entryAt, offsetFor, sizeFor, Entries}
 use Rattle.name_store.specs.Tables.{tableOf}
 use Rattle.name_store.specs.Writing.{tooMany, noRoom, entryFault, unwritten, writeOf, roomWith, roomAfter}
-use Rattle.name_store.specs.Sweeps.{State, workAt, faultOf, checkedWith, visited, sweep, started, begun, stageSays, finished, checkedAll, writtenAll, Safe, Ready}
+use Rattle.name_store.specs.Sweeps.{State, workAt, faultOf, checkedWith, visited, sweep, started, begun, stageSays, finished, Safe, Ready}
 use Rattle.name_store.specs.WriteSettled.{SoundBelow}
 use Rattle.name_store.proofs.Bounds.{not-many, too-many, enough, short}
 use Rattle.name_store.proofs.Exactly.{sound-below}
@@ -25,6 +25,13 @@ use Rattle.name_store.proofs.Laid.{Within, offset-ends}
 use Rattle.name_store.proofs.Turns.{visit-checks, visit-stays, start-many, start-few, begin-short, begin-room, begin-other}
 use Rattle.name_store.proofs.SweepChecks.{keyBefore, checkedTo, all-sound, Stopped, not-checking, not-writing, stays, one-refused}
 use Rattle.name_store.proofs.SweepWrites.{fronted, bytesTo, writtenTo, all-put, all-written}
+
+-- both sweeps
+abbrev pub checkedAll : List Entry → List ℕ → List ℕ → State
+checkedAll es pool room = sweep es pool (length es) (room, started (length es))
+
+abbrev pub writtenAll : List Entry → List ℕ → List ℕ → State
+writtenAll es pool room = sweep es pool (length es) (begun (checkedAll es pool room))
 
 -- ---- while entries are checked
 

@@ -15,7 +15,15 @@ use Rattle.name_store.specs.Examples.{TablesWritten, Answers}
 
 pub tables-written : TablesWritten
 unfolding tableOf recordsOf stringsOf textFor offsetFor roomAfter unwritten tooMany passesPool languageBad belowBefore equalsBefore tooFar noRoom entryFault forbidden same below firstOf when _then_
-tables-written = record { of-three = refl; of-twice = refl; of-odd = refl; of-none = refl; room-of-none = refl; room-of-five = refl; room-of-three = refl; room-of-fault = refl;
+tables-written = record {
+  of-three = refl;
+  of-twice = refl;
+  of-odd = refl;
+  of-none = refl;
+  room-of-none = refl;
+  room-of-five = refl;
+  room-of-three = refl;
+  room-of-fault = refl;
   of-part = λ a b c. ap (take (length b)) (drop-at a (b ++ c) (length a) refl) ∙ take-at b c (length b) refl;
 }
 
@@ -46,6 +54,7 @@ answers = record {
   platform-256 = refl;
   key-below = refl;
   key-equal = refl;
+  allowed-equal = refl;
   platform-first = refl;
   encoding-first = refl;
   encoding-below = refl;
@@ -54,8 +63,6 @@ answers = record {
   pool-language = refl;
   pool-below = refl;
   language-below = refl;
-  language-below-later = refl;
-  language-equal = refl;
   pool-far = refl;
   language-far = refl;
   below-far = refl;
@@ -63,5 +70,6 @@ answers = record {
   below-then-pool = refl;
   far-then-pool = refl;
   far-then-equal = refl;
+  language-before-room = refl;
   fault-before-room = refl;
 }

@@ -103,6 +103,7 @@ pub record Answers : Type 0 where
   -- 17 and 19
   pub key-below : writeOf (english 2 0 1 ∷ english 1 0 1 ∷ []) 6 99 ≡ refused 17 (some 1)
   pub key-equal : writeOf (english 2 0 1 ∷ english 2 1 2 ∷ []) 6 99 ≡ refused 19 (some 1)
+  pub allowed-equal : writeOf (entry 240 40000 1 0 1 ∷ entry 240 40000 1 0 1 ∷ []) 6 99 ≡ refused 19 (some 1)
   pub platform-first : writeOf (entry 3 1 1 0 1 ∷ entry 1 2 2 0 1 ∷ []) 6 99 ≡ refused 17 (some 1)
   pub encoding-first : writeOf (spoken 1 2 ∷ spoken 2 1 ∷ []) 0 30 ≡ answered 30
   pub encoding-below : writeOf (spoken 2 1 ∷ spoken 1 2 ∷ []) 0 30 ≡ refused 17 (some 1)
@@ -112,9 +113,7 @@ pub record Answers : Type 0 where
   -- two at one entry
   pub pool-language : writeOf (entry 3 32768 1 7 0 ∷ []) 6 0 ≡ refused 31 (some 0)
   pub pool-below : writeOf (english 2 0 1 ∷ english 1 7 0 ∷ []) 6 0 ≡ refused 31 (some 1)
-  pub language-below : writeOf (entry 3 40000 1 0 1 ∷ []) 6 0 ≡ refused 18 (some 0)
-  pub language-below-later : writeOf (english 1 0 1 ∷ entry 1 40000 1 0 1 ∷ []) 6 0 ≡ refused 18 (some 1)
-  pub language-equal : writeOf (entry 240 40000 1 0 1 ∷ entry 240 40000 1 0 1 ∷ []) 6 99 ≡ refused 19 (some 1)
+  pub language-below : writeOf (english 1 0 1 ∷ entry 1 40000 1 0 1 ∷ []) 6 0 ≡ refused 18 (some 1)
   pub pool-far : writeOf (english 1 0 65535 ∷ english 2 0 1 ∷ english 3 65536 0 ∷ []) 65535 0 ≡ refused 31 (some 2)
   pub language-far : writeOf (english 1 0 65535 ∷ english 2 0 1 ∷ entry 4 40000 3 0 0 ∷ []) 65535 0 ≡ refused 18 (some 2)
   pub below-far : writeOf (english 1 0 65535 ∷ english 2 0 1 ∷ english 1 0 0 ∷ []) 65535 0 ≡ refused 17 (some 2)
@@ -124,4 +123,5 @@ pub record Answers : Type 0 where
   pub far-then-pool : writeOf (english 1 0 65535 ∷ english 2 0 1 ∷ english 3 0 0 ∷ english 4 65536 0 ∷ []) 65535 0 ≡ refused 32 (some 2)
   pub far-then-equal : writeOf (english 1 0 65535 ∷ english 2 0 1 ∷ english 3 0 0 ∷ english 3 0 0 ∷ []) 65535 0 ≡ refused 32 (some 2)
   -- "last 33"
+  pub language-before-room : writeOf (entry 3 40000 1 0 1 ∷ []) 6 0 ≡ refused 18 (some 0)
   pub fault-before-room : writeOf (english 1 0 1 ∷ english 2 7 0 ∷ []) 6 0 ≡ refused 31 (some 1)

@@ -98,13 +98,6 @@ stageSays stage entry =
 unfoldable pub finished : Work → Outcome ℕ
 finished w = unless (stageSays (w .stage) (w .entry)) (answered (recordAt (w .count) + w .offset))
 
--- both sweeps
-abbrev pub checkedAll : List Entry → List ℕ → List ℕ → State
-checkedAll es pool room = sweep es pool (length es) (room, started (length es))
-
-abbrev pub writtenAll : List Entry → List ℕ → List ℕ → State
-writtenAll es pool room = sweep es pool (length es) (begun (checkedAll es pool room))
-
 -- ---- what a turn asks
 
 -- what lets entry i be written

@@ -48,8 +48,8 @@ use Rattle.name_store.specs.declared.Written.{Written}
 use Rattle.name_store.specs.Writing.{writeOf, roomAfter}
 use Rattle.name_store.specs.Replies.{saidWritten}
 use Rattle.name_store.specs.Entries.{Entries}
-use Rattle.name_store.specs.Sweeps.{State, sweep, Ready, started, begun, finished, checkedAll, writtenAll}
-use Rattle.name_store.proofs.Sweeps.{kept-word, safe-first, safe-second, count-few}
+use Rattle.name_store.specs.Sweeps.{State, sweep, Ready, started, begun, finished}
+use Rattle.name_store.proofs.Sweeps.{checkedAll, writtenAll, kept-word, safe-first, safe-second, count-few}
 use Rattle.name_store.proofs.Entry as T
 use Rattle.name_store.proofs.Work as K
 use Rattle.name_store.proofs.Written as O
