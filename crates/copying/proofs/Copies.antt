@@ -101,12 +101,10 @@ module _ (held : List ℕ) (at : ℕ) (pool : List ℕ) (start n : ℕ) where
       → next ≡ sets room (at + i) (take (n - i) (drop (start + i) pool)) → next ≡ sets held at (take n (drop start pool))
   rest-copied h {room} {next} {i} c e = let u = c .upto in all-copied (more-copied h (n - i) (omega arith) c e) (omega arith)
 
--- in two goes, of which the second copies the rest
-pub both-copied : (held : List ℕ) (at : ℕ) (pool : List ℕ) (start n rest : ℕ) → start + n ≤ length pool → rest ≤ n → (room next : List ℕ)
-    → room ≡ sets held at (take (n - rest) (drop start pool)) → next ≡ sets room (at + (n - rest)) (take rest (drop (start + (n - rest)) pool))
-    → next ≡ sets held at (take n (drop start pool))
-both-copied held at pool start n rest h l room next a b =
-    let m : ℕ = n - rest in
-    let c : Copied held at pool start n room m =
-    record { upto = omega arith; long = ap length a ∙ length-sets held at (take m (drop start pool)); holds = a } in
-    all-copied held at pool start n (more-copied held at pool start n h rest (omega arith) c b) (omega arith)
+-- in two goes
+pub both-copied : (held : List ℕ) (at : ℕ) (pool : List ℕ) (start n i k : ℕ) → start + n ≤ length pool → i + k ≡ n → (room next : List ℕ)
+    → room ≡ sets held at (take i (drop start pool)) → next ≡ sets room (at + i) (take k (drop (start + i) pool)) → next ≡ sets held at (take n (drop start pool))
+both-copied held at pool start n i k h l room next a b =
+    let c : Copied held at pool start n room i =
+    record { upto = omega arith; long = ap length a ∙ length-sets held at (take i (drop start pool)); holds = a } in
+    all-copied held at pool start n (more-copied held at pool start n h k (omega arith) c b) (omega arith)

@@ -9,8 +9,29 @@ ghost use lib.Seq.{sets};
 // The bytes that the compiler copies in one turn of a loop.
 const TURN: usize = 32;
 
+// The bytes that it stores at once.
+const STORE: usize = 16;
+
+// The bytes from which on it pays to bring the stores to multiples of their size first, since one across two lines of the cache takes longer. The room itself is
+// taken to lie at such a multiple, as allocators give it; elsewhere no byte is another, and only the time is lost.
+const LONG: usize = 128;
+
 // Copies n bytes.
 pub fn copy(room: &mut [u8], at: usize, pool: &[u8], start: usize, n: usize)
+    requires { ⌜ (at + n ≤ length (now room)) × (start + n ≤ length (now pool)) ⌝ }
+    ensures { λ _. ⌜ now (room .exit) ≡ sets (now (room .entry)) at (take n (drop start (now (pool .entry)))) ⌝ }
+{
+    if n < LONG {
+        copy_turns(room, at, pool, start, n);
+    } else {
+        let first = STORE - at % STORE;
+        copy_rest(room, at, pool, start, first);
+        copy_turns(room, at + first, pool, start + first, n - first);
+    }
+}
+
+// Copies n bytes: as many as make whole turns, and then the rest.
+fn copy_turns(room: &mut [u8], at: usize, pool: &[u8], start: usize, n: usize)
     requires { ⌜ (at + n ≤ length (now room)) × (start + n ≤ length (now pool)) ⌝ }
     ensures { λ _. ⌜ now (room .exit) ≡ sets (now (room .entry)) at (take n (drop start (now (pool .entry)))) ⌝ }
 {

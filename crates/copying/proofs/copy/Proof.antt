@@ -1,6 +1,6 @@
--- As many bytes as make whole turns, and then the rest.
+-- A long text: first as many bytes as lead to a multiple of a store's size, and then the others.
 -- Assumes nothing.
-use Prim.Native.Nat.{_%_}
+use Prim.Native.Nat.{_-_, _%_}
 use native.Mathlib.Omega.{arith}
 use denote.Ref.{now}
 use borrow.Author.Needs.{needs}
@@ -8,20 +8,26 @@ use Rattle.copying.proofs.Copies.{both-copied}
 use Rattle.copying.proofs.copy.Statement.{statement}
 use Rattle.copying.proofs.copy.Tie as tie
 
-returns : tie.Need-returns
-returns c =
-    let start = c .before .before .before .before .before .before .before .before .before .before in
-    both-copied (now (start .args .room)) (start .args .at) (now (start .args .pool)) (start .args .start) (start .args .n) (start .args .n % 32) (start .pre .1) (omega arith) _ _
-    (c .before .before .before .before .before .before .copy-bytes .ensures) (c .before .before .copy-rest .ensures)
+returns-2 : tie.Need-returns-2
+returns-2 c =
+    let first = c .before .before .before .before .before .before in
+    let start = first .before .before .before .before .before in
+    let i = 16 - start .args .at % 16 in
+    both-copied (now (start .args .room)) (start .args .at) (now (start .args .pool)) (start .args .start) (start .args .n) i (start .args .n - i) (start .pre .1)
+    (omega arith) _ _ (first .copy-rest .ensures) (c .before .before .copy-turns2 .ensures)
 
 pub copy-spec : {M : Type 1} → statement M
 copy-spec =
     tie.close
     (tie.spec
+    (λ c κs. search needs)
     (λ c. search needs)
     (λ c κs. search needs)
     (λ c. search needs)
     (λ c. search needs)
+    (λ c. search needs)
     (λ c κs. search needs)
     (λ c. search needs)
-    returns)
+    (λ c. search needs)
+    (λ c. search needs)
+    returns-2)
