@@ -138,5 +138,7 @@ pub keeps-bytes : KeepsBytes roomAfter
 keeps-bytes es pool r sixteen bp br = by (unwritten es (length pool) (length r)) refl
   where
     by : (o : Option Refusal) → unwritten es (length pool) (length r) ≡ o → Bytes (roomAfter es pool r)
-    by none e = rw (room-is es pool r e) (bytes-append (tableOf pool es) (drop (sizeFor es) r) (table-bytes es sixteen pool bp (unrefused es (length pool) (length r) e .0)) (bytes-drop (sizeFor es) r br))
+    by none e =
+        let t : Bytes (tableOf pool es) = table-bytes es sixteen pool bp (unrefused es (length pool) (length r) e .0) in
+        rw (room-is es pool r e) (bytes-append (tableOf pool es) (drop (sizeFor es) r) t (bytes-drop (sizeFor es) r br))
     by (some x) e = rw (room-held es pool r x e) br
