@@ -1,4 +1,4 @@
-//! The tables that are timed: those of the fonts under some folders, and 'name' tables of a given number of records.
+//! The tables that are timed: those of the fonts under some folders, and 'name' tables of a given number of records or with a long PostScript name.
 
 use std::path::{Path, PathBuf};
 
@@ -92,4 +92,18 @@ pub fn one_byte_changed() -> [Vec<u8>; 2] {
     let last = changed.len() - 13;
     changed[last] ^= 1;
     [t, changed]
+}
+
+/// An accepted 'name' table with a PostScript name of so many characters, at most 63: letters, digits and a hyphen, in both records.
+pub fn postscript_name(count: u16) -> Vec<u8> {
+    let all = b"ABCDEFGHIJKLMNOPQRSTUVWXYZabcdefghijklmnopqrstuvwxyz0123456789-";
+    let name = &all[..usize::from(count)];
+    let records = [[1, 0, 0, 6, count, 0], [3, 1, 0x409, 6, 2 * count, count]];
+    let mut t = Vec::new();
+    for number in [0, 2, 30].into_iter().chain(records.concat()) {
+        t.extend(u16::to_be_bytes(number));
+    }
+    t.extend(name);
+    t.extend(name.iter().flat_map(|&code| [0, code]));
+    t
 }

@@ -314,6 +314,17 @@ fn time_names(names: &[Vec<u8>]) -> Vec<Bar> {
             over(names, |t: &[u8]| tuned::postscript(t)),
         ]),
     );
+    let longest = [fonts::postscript_name(63)];
+    agree(&longest, &[]);
+    let long_name = line(
+        "PostScript name, 63 characters",
+        1,
+        best([
+            over(&longest, |t: &[u8]| raw::postscript(t)),
+            over(&longest, |t: &[u8]| plain::postscript(t)),
+            over(&longest, |t: &[u8]| tuned::postscript(t)),
+        ]),
+    );
     line(
         "version number, a font",
         calls,
@@ -323,7 +334,19 @@ fn time_names(names: &[Vec<u8>]) -> Vec<Bar> {
             over(names, |t: &[u8]| tuned::version(t)),
         ]),
     );
-    vec![bar("check and lookup, a font, to plain", 0.6, lookup.plain)]
+    vec![
+        bar("check and lookup, a font, to plain", 0.6, lookup.plain),
+        bar(
+            "PostScript name, 63 characters, to plain",
+            0.6,
+            long_name.plain,
+        ),
+        bar(
+            "PostScript name, 63 characters, to tuned",
+            1.1,
+            long_name.tuned,
+        ),
+    ]
 }
 
 fn time_os2s(os2s: &[Vec<u8>]) -> Vec<Bar> {
@@ -666,6 +689,62 @@ fn time_other(other: &Other, names: &[Vec<u8>], os2s: &[Vec<u8>]) {
             theirs / calls,
             ours / theirs
         );
+    }
+}
+
+/// The library's calls whose instructions are counted, by name.
+type Call = (&'static str, Box<dyn FnMut()>);
+
+fn calls() -> [Call; 5] {
+    fn on<R>(table: Vec<u8>, f: impl Fn(&[u8]) -> R + 'static) -> Box<dyn FnMut()> {
+        Box::new(move || {
+            black_box(f(black_box(&table)));
+        })
+    }
+    let many = || fonts::many_records(5460);
+    [
+        ("check, 50 records", on(fonts::many_records(50), raw::check)),
+        ("check, 5460 records", on(many(), raw::check)),
+        (
+            "check and lookup, 5460 records",
+            on(many(), |t| raw::lookup(t, black_box([3, 1, 0x409, 5]))),
+        ),
+        (
+            "PostScript name, 13 characters",
+            on(fonts::postscript_name(13), raw::postscript),
+        ),
+        (
+            "PostScript name, 63 characters",
+            on(fonts::postscript_name(63), raw::postscript),
+        ),
+    ]
+}
+
+/// Makes one of the calls so many times, for a tool that counts instructions; without words, prints what they are.
+pub fn repeat() -> ExitCode {
+    let words: Vec<String> = std::env::args().skip(1).collect();
+    match &words[..] {
+        [] => {
+            for (what, _) in calls() {
+                println!("{what}");
+            }
+            ExitCode::SUCCESS
+        }
+        [wanted, turns] => {
+            let call = calls().into_iter().find(|(what, _)| what == wanted);
+            let (Some((_, mut work)), Ok(turns)) = (call, turns.parse::<u32>()) else {
+                eprintln!("calls: no such call, or no number of turns");
+                return ExitCode::FAILURE;
+            };
+            for _ in 0..turns {
+                work();
+            }
+            ExitCode::SUCCESS
+        }
+        _ => {
+            eprintln!("calls: a call and a number of turns, or nothing");
+            ExitCode::FAILURE
+        }
     }
 }
 

@@ -231,10 +231,15 @@ fn allowed(byte: u8) -> bool {
 #[inline(never)]
 pub fn postscript(t: &[u8]) -> Result<Text> {
     check(t)?;
-    postscript_of(t, find(t, (1, 0, 0, 6)), find(t, (3, 1, 0x409, 6)))
+    postscript_of(t, find(t, (1, 0, 0, 6)), find(t, (3, 1, 0x409, 6)), allowed)
 }
 
-pub fn postscript_of(t: &[u8], one: Option<Text>, two: Option<Text>) -> Result<Text> {
+pub fn postscript_of(
+    t: &[u8],
+    one: Option<Text>,
+    two: Option<Text>,
+    allowed: impl Fn(u8) -> bool,
+) -> Result<Text> {
     let (one, two) = match (one, two) {
         (None, None) => return refuse(21),
         (Some(one), Some(two)) => (one, two),
@@ -245,12 +250,15 @@ pub fn postscript_of(t: &[u8], one: Option<Text>, two: Option<Text>) -> Result<T
     let first_formed = (1..=63).contains(&first.len()) && first.iter().all(|&b| allowed(b));
     let second_formed = second.len().is_multiple_of(2)
         && (1..=63).contains(&(second.len() / 2))
-        && second.chunks(2).all(|c| c[0] == 0 && allowed(c[1]));
+        && second.chunks_exact(2).all(|c| c[0] == 0 && allowed(c[1]));
     if !first_formed || !second_formed {
         return refuse(23);
     }
     if first.len() != second.len() / 2
-        || first.iter().zip(second.chunks(2)).any(|(&a, c)| a != c[1])
+        || first
+            .iter()
+            .zip(second.chunks_exact(2))
+            .any(|(&a, c)| a != c[1])
     {
         return refuse(24);
     }

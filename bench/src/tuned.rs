@@ -1,4 +1,5 @@
-//! Tuned safe Rust: it loads whole words, the key as one number of 64 bits, and the writer fills bytes of its own.
+//! Tuned safe Rust: it loads whole words, the key as one number of 64 bits, a character is tested by one read in a table of 256, and
+//! the writer fills bytes of its own.
 
 use crate::answers::{Answer, Result, Text, Version, Written, refuse, refuse_at};
 use crate::plain::{self, FIELDS};
@@ -113,8 +114,26 @@ pub fn postscript(t: &[u8]) -> Result<Text> {
         t,
         find(t, number([1, 0, 0, 6])),
         find(t, number([3, 1, 0x409, 6])),
+        |byte| ALLOWED[byte as usize],
     )
 }
+
+/// Whether a PostScript name may hold the character, for each of the 256 codes.
+static ALLOWED: [bool; 256] = {
+    let mut all = [false; 256];
+    let mut code = 33;
+    while code <= 126 {
+        all[code] = true;
+        code += 1;
+    }
+    let reserved = b"[](){}<>/%";
+    let mut i = 0;
+    while i < reserved.len() {
+        all[reserved[i] as usize] = false;
+        i += 1;
+    }
+    all
+};
 
 #[inline(never)]
 pub fn version(t: &[u8]) -> Result<Version> {

@@ -1,0 +1,5 @@
+//! Usage: calls [CALL TURNS]; `bench/instructions` uses it.
+
+fn main() -> std::process::ExitCode {
+    bench::repeat()
+}
