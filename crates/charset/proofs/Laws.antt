@@ -23,7 +23,7 @@ eighty-four = refl
 pub reserved-are : reserved ≡ 91 ∷ 93 ∷ 40 ∷ 41 ∷ 123 ∷ 125 ∷ 60 ∷ 62 ∷ 47 ∷ 37 ∷ []
 reserved-are = refl
 
--- a code behind others, where a test holds
+-- codes, with one more at their end where a test holds
 abbrev pub behind : List ℕ → Bool → ℕ → List ℕ
 behind cs true c = cs ++ (c ∷ [])
 behind cs false c = cs

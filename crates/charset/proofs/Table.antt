@@ -14,7 +14,7 @@ use Rattle.charset.proofs.Laws.{codesBelow, none-below, allowed-is}
 abbrev pub other : List ℕ → ℕ → Bool
 other words c = xor (entryOf words c) (allowed c)
 
--- the codes whose entry is
+-- the codes with such an entry
 abbrev pub wrong : List ℕ → List ℕ
 wrong words = codesBelow (other words) 256
 
