@@ -43,7 +43,7 @@ whole-table words = (
   λ a. none-below (other words) 256 .1 (λ c h. not-other (entryOf words c) (allowed c) .1 (settles words a c h)),
 )
 
--- where an entry stands, worked out: bits 0, 1, 2 and 63 of the four words are the entries of the codes 0, 65, 130 and 255
-pub entries-are : codesBelow (entryOf (1 ∷ 2 ∷ 4 ∷ 9223372036854775808 ∷ [])) 256 ≡ 0 ∷ 65 ∷ 130 ∷ 255 ∷ []
+-- where an entry stands, worked out: bits 0, 1, 2 and 63 of the four words are the entries of the codes 0, 65, 130 and 255; behind the last word there is none
+pub entries-are : codesBelow (entryOf (1 ∷ 2 ∷ 4 ∷ 9223372036854775808 ∷ [])) 320 ≡ 0 ∷ 65 ∷ 130 ∷ 255 ∷ []
 unfolding entryOf
 entries-are = refl
