@@ -1,6 +1,6 @@
 /*
- * Gyalvindor: a proved reader of a font's 'name' and 'OS/2' tables, a proved comparison of two of them, and proved writers of
- * both.
+ * Gyalvindor: a proved reader of a font's 'name' and 'OS/2' tables, a proved comparison of two of them, proved writers of
+ * both, and a proved chooser among the faces that a rack has loaded.
  *
  * Building. `rt staticlib gyalvindor`, run in the repository's root, makes the archive. Then:
  *
@@ -14,8 +14,9 @@
  * Only gv_os2_write, gv_os2_rewrite, gv_name_write, gv_os2_compare and gv_name_compare write to memory.
  *
  * Answers. Every function gives a struct by value. Look at its refusal first: where refusal.number is not 0 there is no
- * answer, and the number says why. Every function checks the whole table before it answers, so gv_name_check and gv_os2_check
- * need not be called first.
+ * answer, and the number says why. Only gv_rack_empty is never refused, and gives a rack without a refusal. Every function
+ * checks the whole table before it answers, so gv_name_check and gv_os2_check need not be called first. Where gv_rack_load is
+ * refused by 1, 54 or 53 it reads no table, and where it is refused by 2, 3 or 52 it does not read the 'name' table.
  *
  *     gv_number weight = gv_os2_field(table, length, 5, GV_WEIGHT);
  *     if (weight.refusal.number != 0)
@@ -23,7 +24,8 @@
  *     else if (weight.kind == GV_VALUE)
  *         printf("weight %lld\n", (long long)weight.value);
  *
- * examples/face.c uses every function but gv_name_write, which examples/rename.c uses.
+ * examples/face.c uses every function but gv_name_write, which examples/rename.c uses, and those of the chooser, which
+ * examples/rack.c uses.
  */
 #ifndef GYALVINDOR_H
 #define GYALVINDOR_H
@@ -37,9 +39,10 @@ extern "C" {
 
 /*
  * A refusal. Where the call is not refused, `number` is 0, and so are `carries` and `carried`. Where it is refused, all
- * members after the refusal are 0, in every answer, but for `side` of gv_compared, which says which table is refused. Where
- * several refusals apply, the one that is given is the first in the order that stands at the function. Records, tags and
- * entries are counted from 0. For gv_name_write, 17, 18 and 19 are about an entry, and carry its number.
+ * members after the refusal are 0, in every answer, but for `side` of gv_compared, which says which table is refused, and
+ * `rack` of gv_loaded, whose slots hold what they held. Where several refusals apply, the one that is given is the first in
+ * the order that stands at the function. Records, tags and entries are counted from 0. For gv_name_write, 17, 18 and 19 are
+ * about an entry, and carry its number.
  *
  *   number  given exactly when                                              carried
  *     1     the level is above 5                                            -
@@ -62,7 +65,7 @@ extern "C" {
  *    17     a record's key is below the one before it                       the later record
  *    18     a record's language number is not allowed                       the record
  *    19     a record's key is equal to the one before it                    the later record
- *    20     no record has the key (version: neither key)                    -
+ *    20     no record has the key (version, family: neither key)            -
  *    21     neither PostScript record is there                              -
  *    22     exactly one is there                                            -
  *    23     a PostScript string is ill-formed                               -
@@ -75,6 +78,12 @@ extern "C" {
  *    31     an entry's text passes the pool's end                           the entry
  *    32     an entry's string would start beyond offset 65535               the entry
  *    33     the room is shorter than the 'name' table to write              -
+ *    50     no loaded face has the family                                   -
+ *    51     the font's family is empty or has over 64 bytes                 -
+ *    52     the OS/2 table's version is above the level                     -
+ *    53     the slot is taken                                               -
+ *    54     the slot is above 31                                            -
+ *    55     the slot is empty                                               -
  *
  * The rules for OS/2 values that refusal 3 carries:
  *
@@ -350,6 +359,72 @@ gv_compared gv_os2_compare(const uint8_t *left, size_t left_length, const uint8_
    enough. */
 gv_compared gv_name_compare(const uint8_t *left, size_t left_length, const uint8_t *right, size_t right_length, uint16_t *room,
                             size_t numbers);
+
+/* ---- a chooser for the rack
+
+   A rack has 32 slots, numbered 0 to 31, for the faces that a box may show. It is a struct that is passed and returned by
+   value: a call gives the rack after it, and the one that was passed is the caller's still. Nothing is kept between calls.
+
+       gv_rack rack = gv_rack_empty();
+       gv_loaded loaded = gv_rack_load(rack, 0, 5, os2, os2_length, name, name_length);
+       if (loaded.refusal.number == 0)
+           rack = loaded.rack;
+       gv_chosen chosen = gv_rack_request(rack, family, family_length, 400, 5, GV_UPRIGHT);
+       if (chosen.refusal.number == 0)
+           printf("slot %u\n", (unsigned)chosen.slot); */
+
+#define GV_SLOTS 32u
+#define GV_FAMILY_BYTES 64u
+
+/* Which slope a request wants: 0 upright, any other number sloped. */
+#define GV_UPRIGHT 0u
+#define GV_SLOPED 1u
+
+/* A slot. It holds a face exactly where `length` is 1 to 64, whatever its other members are. In an empty rack and after an
+   unload no more is promised of a slot than that `length` is not 1 to 64; in fact it is 0. Where a slot holds a face, what
+   stands in `family` behind the first `length` bytes is not promised. So compare slots by their faces, not byte by byte. */
+typedef struct gv_slot {
+    uint16_t weight;
+    uint16_t width;                  /* the width class */
+    uint16_t sloped;                 /* 0 where fsSelection bit 0 is clear, any other number where it is set */
+    uint16_t length;                 /* of the family, in bytes */
+    uint8_t family[GV_FAMILY_BYTES]; /* its first `length` bytes, as they stand in the 'name' table */
+} gv_slot;
+
+typedef struct gv_rack {
+    gv_slot slots[GV_SLOTS];
+} gv_rack;
+
+/* The rack after a load or an unload. Where the call is refused every slot holds what it held. */
+typedef struct gv_loaded {
+    gv_refusal refusal;
+    gv_rack rack;
+} gv_loaded;
+
+/* The slot of the chosen face. Where the call is refused it is 0, and stands for no slot. */
+typedef struct gv_chosen {
+    gv_refusal refusal;
+    uint32_t slot;
+} gv_chosen;
+
+/* A rack of 32 empty slots. */
+gv_rack gv_rack_empty(void);
+
+/* Loads a font, by its two tables read at a level, into an empty slot; no other slot changes. The face's family is the string
+   of the record (3, 1, 0x409, 16), or of (3, 1, 0x409, 1) where there is no such record: 1 to 64 bytes, whatever they are. The
+   level is not kept. Refusals 1, 54, 53; then 2, 3, 52 of the OS/2 table; then as gv_name_check, 20, 51. */
+gv_loaded gv_rack_load(gv_rack rack, uint32_t slot, uint32_t level, const uint8_t *os2, size_t os2_length,
+                       const uint8_t *name, size_t name_length);
+
+/* Empties a slot; no other slot changes. Refusals 54, 55. */
+gv_loaded gv_rack_unload(gv_rack rack, uint32_t slot);
+
+/* Chooses among the loaded faces whose family has exactly these bytes: one with the wanted slope first, then the smallest
+   difference of width classes, then the smallest difference of weights, then the lower weight, then the lower slot. Where none
+   has the slope, one of the other slope is chosen. Weight and width may be any numbers, and the family any bytes. It is asked
+   for as it stands in the 'name' table, where it has two bytes a character: Ab is 0, 'A', 0, 'b'. Refusal 50. */
+gv_chosen gv_rack_request(gv_rack rack, const uint8_t *family, size_t length, uint32_t weight, uint32_t width,
+                          uint32_t slope);
 
 #ifdef __cplusplus
 }

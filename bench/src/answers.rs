@@ -53,6 +53,30 @@ pub struct Entry {
     pub length: u16,
 }
 
+/// A face as a slot of a rack holds it.
+#[derive(Debug, PartialEq)]
+pub struct Face {
+    pub weight: u16,
+    pub width: u16,
+    pub sloped: bool,
+    pub family: Vec<u8>,
+}
+
+/// What a request asks for.
+#[derive(Debug)]
+pub struct Request {
+    pub family: Vec<u8>,
+    pub weight: u32,
+    pub width: u32,
+    pub sloped: bool,
+}
+
+impl AsRef<Request> for Request {
+    fn as_ref(&self) -> &Request {
+        self
+    }
+}
+
 /// The size written.
 pub type Written = Result<usize>;
 

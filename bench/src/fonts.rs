@@ -1,12 +1,19 @@
-//! The tables that are timed: those of the fonts under some folders, and 'name' tables of a given number of records or with a long PostScript name.
+//! The tables that are timed: those of the fonts under some folders, 'name' tables of a given number of records or with a long PostScript name, and the tables of made faces.
 
 use std::path::{Path, PathBuf};
 
-/// The 'name' and 'OS/2' tables of the fonts found.
+/// The 'name' and 'OS/2' tables of the fonts found, and those of the fonts that have both.
 pub struct Tables {
     pub names: Vec<Vec<u8>>,
     pub os2s: Vec<Vec<u8>>,
+    pub both: Vec<Font>,
     pub fonts: usize,
+}
+
+/// The two tables of a font.
+pub struct Font {
+    pub os2: Vec<u8>,
+    pub name: Vec<u8>,
 }
 
 fn collect(folder: &Path, files: &mut Vec<PathBuf>) {
@@ -49,13 +56,22 @@ pub fn tables(folders: &[PathBuf]) -> Tables {
     let mut found = Tables {
         names: Vec::new(),
         os2s: Vec::new(),
+        both: Vec::new(),
         fonts: 0,
     };
     for file in &files {
         if let Ok(font) = std::fs::read(file) {
             found.fonts += 1;
-            found.names.extend(table(&font, b"name"));
-            found.os2s.extend(table(&font, b"OS/2"));
+            let name = table(&font, b"name");
+            let os2 = table(&font, b"OS/2");
+            if let (Some(name), Some(os2)) = (&name, &os2) {
+                found.both.push(Font {
+                    os2: os2.clone(),
+                    name: name.clone(),
+                });
+            }
+            found.names.extend(name);
+            found.os2s.extend(os2);
         }
     }
     found
@@ -105,5 +121,38 @@ pub fn postscript_name(count: u16) -> Vec<u8> {
     }
     t.extend(name);
     t.extend(name.iter().flat_map(|&code| [0, code]));
+    t
+}
+
+/// A family's text as fonts store it, two bytes a character.
+pub fn two_bytes(family: &str) -> Vec<u8> {
+    family.encode_utf16().flat_map(u16::to_be_bytes).collect()
+}
+
+/// An accepted 'OS/2' table of version 4.
+pub fn os2(weight: u16, width: u16, sloped: bool) -> Vec<u8> {
+    let mut t = vec![0; 96];
+    for (at, number) in [(0, 4), (4, weight), (6, width), (62, u16::from(sloped))] {
+        t[at..at + 2].copy_from_slice(&number.to_be_bytes());
+    }
+    t
+}
+
+/// An accepted 'name' table with a text for a family under each of the name IDs, which rise.
+pub fn families(texts: &[(u16, &[u8])]) -> Vec<u8> {
+    let count = texts.len() as u16;
+    let mut t = Vec::new();
+    for number in [0, count, 6 + 12 * count] {
+        t.extend(number.to_be_bytes());
+    }
+    let mut offset = 0;
+    for (name, text) in texts {
+        let length = text.len() as u16;
+        for part in [3, 1, 0x409, *name, length, offset] {
+            t.extend(u16::to_be_bytes(part));
+        }
+        offset += length;
+    }
+    t.extend(texts.iter().flat_map(|(_, text)| *text));
     t
 }

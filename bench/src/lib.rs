@@ -6,7 +6,8 @@ mod library;
 mod plain;
 mod tuned;
 
-use answers::{Answer, Entry};
+use answers::{Answer, Entry, Request};
+use fonts::Font;
 use library::raw;
 use std::fmt::Debug;
 use std::hint::black_box;
@@ -648,6 +649,267 @@ fn time_name_writer(names: &[Vec<u8>]) -> Vec<Bar> {
     ]
 }
 
+/// The same rack twice. Each call is made on both, and both are held to the same answer and to the same faces after it.
+struct Racks {
+    ours: library::GvRack,
+    theirs: plain::Rack,
+}
+
+impl Racks {
+    fn empty() -> Racks {
+        let racks = Racks {
+            ours: raw::empty(),
+            theirs: plain::Rack::empty(),
+        };
+        racks.held_alike();
+        racks
+    }
+
+    fn held_alike(&self) {
+        assert_eq!(
+            library::faces(&self.ours),
+            self.theirs.faces(),
+            "the racks differ"
+        );
+    }
+
+    fn load(&mut self, slot: u32, level: u32, font: &Font) -> answers::Result<()> {
+        let Font { os2, name } = font;
+        let done = library::load(&mut self.ours, slot, level, os2, name);
+        let theirs = plain::load(&mut self.theirs, slot, level, os2, name);
+        assert_eq!(done, theirs, "loading differs");
+        self.held_alike();
+        done
+    }
+
+    fn unload(&mut self, slot: u32) -> answers::Result<()> {
+        let done = library::unload(&mut self.ours, slot);
+        let theirs = plain::unload(&mut self.theirs, slot);
+        assert_eq!(done, theirs, "unloading differs");
+        self.held_alike();
+        done
+    }
+
+    fn request(&self, wanted: &Request) -> answers::Result<u32> {
+        let chosen = library::request(&self.ours, wanted);
+        let theirs = plain::request(&self.theirs, wanted);
+        assert_eq!(chosen, theirs, "{wanted:?} differs");
+        chosen
+    }
+
+    /// Requests for a family, of weights and widths that are between those of faces, at one or far off.
+    fn requests(&self, family: &[u8]) {
+        for weight in (0..=1000).step_by(50).chain([65535, 65536, u32::MAX]) {
+            for width in (0..=10).chain([65535, 65536, u32::MAX]) {
+                for sloped in [false, true] {
+                    let _ = self.request(&Request {
+                        family: family.to_vec(),
+                        weight,
+                        width,
+                        sloped,
+                    });
+                }
+            }
+        }
+    }
+}
+
+/// One family; and eight, some of one length.
+const ONE_FAMILY: [&str; 1] = ["DejaVu Sans"];
+const EIGHT_FAMILIES: [&str; 8] = [
+    "Cantarell",
+    "Noto Sans",
+    "Noto Mono",
+    "DejaVu Sans",
+    "DejaVu Mono",
+    "DejaVu Serif",
+    "Liberation Sans",
+    "Liberation Mono",
+];
+
+/// A rack of 32 made faces, the slots taking the families in turn: weights 100 to 900, widths 1 to 9, both slopes.
+fn full_rack(families: &[&str]) -> Racks {
+    let mut racks = Racks::empty();
+    for i in 0..32u16 {
+        let family = fonts::two_bytes(families[usize::from(i) % families.len()]);
+        let font = Font {
+            os2: fonts::os2(100 * (1 + i % 9), 1 + i / 2 % 9, i / 8 % 2 == 1),
+            name: fonts::families(&[(1, &family)]),
+        };
+        let done = racks.load(u32::from(i), 5, &font);
+        assert_eq!(done, Ok(()), "a face made for the benchmark is refused");
+    }
+    racks
+}
+
+/// Requests of other weights, widths and slopes for the families in turn.
+fn requests_made(families: &[&str]) -> Vec<Request> {
+    (0..64u32)
+        .map(|k| Request {
+            family: fonts::two_bytes(families[k as usize % families.len()]),
+            weight: 1 + k * 389 % 1000,
+            width: 1 + k * 5 % 9,
+            sloped: k / 8 % 2 == 1,
+        })
+        .collect()
+}
+
+/// Tables that a load refuses, each for another reason.
+fn refused_fonts() -> Vec<Font> {
+    let os2 = |change: fn(&mut Vec<u8>)| {
+        let mut os2 = fonts::os2(400, 5, false);
+        change(&mut os2);
+        Font {
+            os2,
+            name: fonts::families(&[(1, b"x")]),
+        }
+    };
+    let name = |name: Vec<u8>| Font {
+        os2: fonts::os2(400, 5, false),
+        name,
+    };
+    let family = fonts::families(&[(1, b"xx")]);
+    vec![
+        os2(|t| t.truncate(1)),
+        os2(|t| t.truncate(95)),
+        os2(|t| t[4..6].fill(0)),
+        os2(|t| t[62] = 0x80),
+        os2(|t| t[1] = 6),
+        name(family[..5].to_vec()),
+        name(family[..family.len() - 1].to_vec()),
+        name(fonts::families(&[])),
+        name(fonts::families(&[(2, b"x"), (17, b"x")])),
+        name(fonts::families(&[(1, b"x"), (16, b"")])),
+        name(fonts::families(&[(1, b"x"), (16, &[b'x'; 65])])),
+    ]
+}
+
+/// That the library and plain safe Rust load, unload and choose alike.
+fn agree_racks(fonts: &[Font]) {
+    let mut racks = Racks::empty();
+    let refused = refused_fonts();
+    for font in &refused {
+        assert!(racks.load(0, 5, font).is_err(), "a refused font is loaded");
+    }
+    for font in refused.iter().chain(fonts) {
+        for (level, slot) in (0..=6).flat_map(|level| [0, 31, 32].map(|slot| (level, slot))) {
+            // Twice each, as a slot that is taken or empty refuses.
+            let _ = [(); 2].map(|_| racks.load(slot, level, font));
+            let _ = [(); 2].map(|_| racks.unload(slot));
+        }
+    }
+    for (i, font) in fonts.iter().enumerate() {
+        let slot = (i % 32) as u32;
+        let _ = racks.unload(slot);
+        let _ = racks.load(slot, 5, font);
+    }
+    for face in racks.theirs.faces().into_iter().flatten() {
+        for family in [&face.family[..], &face.family[1..], b""] {
+            racks.requests(family);
+        }
+    }
+    for families in [&ONE_FAMILY[..], &EIGHT_FAMILIES] {
+        let mut racks = full_rack(families);
+        for slot in 0..32 {
+            for family in families {
+                racks.requests(&fonts::two_bytes(family));
+            }
+            assert_eq!(racks.unload(slot), Ok(()), "a face made is not there");
+        }
+        racks.requests(&fonts::two_bytes(families[0]));
+    }
+}
+
+/// Work that loads each font into the next slot of a rack, which is empty at first and whenever all its slots are taken.
+fn over_loads<'a, R>(
+    fonts: &'a [&Font],
+    empty: impl Fn() -> R + 'a,
+    load: impl Fn(&mut R, u32, &Font) + 'a,
+) -> Box<dyn FnMut() + 'a> {
+    Box::new(move || {
+        for fonts in fonts.chunks(32) {
+            let mut rack = empty();
+            for (slot, font) in (0..).zip(fonts) {
+                load(black_box(&mut rack), slot, black_box(font));
+            }
+            black_box(&mut rack);
+        }
+    })
+}
+
+/// Work that unloads each slot of a full rack.
+fn over_unloads<'a, R: Copy>(
+    full: &'a R,
+    unload: impl Fn(&mut R, u32) + 'a,
+) -> Box<dyn FnMut() + 'a> {
+    Box::new(move || {
+        let mut rack = *full;
+        for slot in 0..32 {
+            unload(black_box(&mut rack), black_box(slot));
+        }
+        black_box(&mut rack);
+    })
+}
+
+fn time_requests(what: &str, families: &[&str]) -> f64 {
+    let racks = full_rack(families);
+    let requests = requests_made(families);
+    for wanted in &requests {
+        let chosen = racks.request(wanted);
+        assert!(chosen.is_ok(), "a family made for the benchmark is refused");
+    }
+    line_plain(
+        what,
+        requests.len(),
+        best([
+            over(&requests, |r: &Request| {
+                raw::request(black_box(&racks.ours), r)
+            }),
+            over(&requests, |r: &Request| {
+                plain::request(black_box(&racks.theirs), r)
+            }),
+        ]),
+    )
+}
+
+fn time_racks(fonts: &[Font]) -> Vec<Bar> {
+    agree_racks(fonts);
+    let one = time_requests("request, 32 faces of one family", &ONE_FAMILY);
+    let eight = time_requests("request, 32 faces of eight families", &EIGHT_FAMILIES);
+    let accepted: Vec<&Font> = fonts
+        .iter()
+        .filter(|font| Racks::empty().load(0, 5, font).is_ok())
+        .collect();
+    let load = line_plain(
+        "load, a font",
+        accepted.len(),
+        best([
+            over_loads(&accepted, raw::empty, |rack, slot, font| {
+                raw::load(rack, slot, black_box(5), &font.os2, &font.name).keep(rack)
+            }),
+            over_loads(&accepted, plain::Rack::empty, |rack, slot, font| {
+                let _ = black_box(plain::load(rack, slot, black_box(5), &font.os2, &font.name));
+            }),
+        ]),
+    );
+    let full = full_rack(&ONE_FAMILY);
+    line_plain(
+        "unload",
+        32,
+        best([
+            over_unloads(&full.ours, |rack, slot| raw::unload(rack, slot).keep(rack)),
+            over_unloads(&full.theirs, |rack, slot| {
+                let _ = black_box(plain::unload(rack, slot));
+            }),
+        ]),
+    );
+    vec![
+        bar("request, one family, to plain", 1.6, one),
+        bar("request, eight families, to plain", 1.1, eight),
+        bar("load, a font, to plain", 0.8, load),
+    ]
+}
+
 /// Another reader of fonts. It does other work: it checks less and says less.
 pub struct Other {
     /// Its name.
@@ -695,7 +957,7 @@ fn time_other(other: &Other, names: &[Vec<u8>], os2s: &[Vec<u8>]) {
 /// The library's calls whose instructions are counted, by name.
 type Call = (&'static str, Box<dyn FnMut()>);
 
-fn calls() -> [Call; 5] {
+fn calls() -> [Call; 8] {
     fn on<R>(table: Vec<u8>, f: impl Fn(&[u8]) -> R + 'static) -> Box<dyn FnMut()> {
         Box::new(move || {
             black_box(f(black_box(&table)));
@@ -717,6 +979,25 @@ fn calls() -> [Call; 5] {
             "PostScript name, 63 characters",
             on(fonts::postscript_name(63), raw::postscript),
         ),
+        ("request, 32 faces of one family", {
+            let rack = full_rack(&ONE_FAMILY).ours;
+            let wanted = requests_made(&ONE_FAMILY).swap_remove(0);
+            Box::new(move || {
+                black_box(raw::request(black_box(&rack), black_box(&wanted)));
+            })
+        }),
+        ("load, a font of 50 records", {
+            let (rack, os2) = (raw::empty(), fonts::os2(400, 5, false));
+            on(fonts::many_records(50), move |name| {
+                raw::load(black_box(&rack), black_box(0), black_box(5), &os2, name).refusal
+            })
+        }),
+        ("unload", {
+            let rack = full_rack(&ONE_FAMILY).ours;
+            Box::new(move || {
+                black_box(raw::unload(black_box(&rack), black_box(0)).refusal);
+            })
+        }),
     ]
 }
 
@@ -773,6 +1054,7 @@ pub fn run(other: Option<Other>) -> ExitCode {
         time_many(),
         time_comparisons(&found.names, &found.os2s),
         time_name_writer(&found.names),
+        time_racks(&found.both),
     ]
     .concat();
     println!();

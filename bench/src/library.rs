@@ -1,6 +1,8 @@
 //! The proved library, as `include/gyalvindor.h` declares it.
 
-use crate::answers::{Answer, Compared, Entry, Optical, Refusal, Result, Text, Version, Written};
+use crate::answers::{
+    Answer, Compared, Entry, Face, Optical, Refusal, Request, Result, Text, Version, Written,
+};
 
 #[repr(C)]
 #[derive(Clone, Copy)]
@@ -70,6 +72,45 @@ pub struct GvCompared {
     rows: usize,
 }
 
+#[repr(C)]
+#[derive(Clone, Copy)]
+pub struct GvSlot {
+    weight: u16,
+    width: u16,
+    sloped: u16,
+    length: u16,
+    family: [u8; 64],
+}
+
+/// Aligned as C compilers align what they hand over by value, so that it is copied there in words of 8 bytes, as they copy it.
+#[repr(C, align(8))]
+#[derive(Clone, Copy)]
+pub struct GvRack {
+    slots: [GvSlot; 32],
+}
+
+#[repr(C)]
+pub struct GvLoaded {
+    pub refusal: GvRefusal,
+    rack: GvRack,
+}
+
+impl GvLoaded {
+    /// As a C program goes on: where the call is done, its rack is the one after it.
+    #[inline]
+    pub fn keep(&self, rack: &mut GvRack) {
+        if self.refusal.number == 0 {
+            *rack = self.rack;
+        }
+    }
+}
+
+#[repr(C)]
+pub struct GvChosen {
+    refusal: GvRefusal,
+    slot: u32,
+}
+
 unsafe extern "C" {
     fn gv_name_check(table: *const u8, length: usize) -> GvRefusal;
     fn gv_name_lookup(
@@ -116,6 +157,25 @@ unsafe extern "C" {
         room: *mut u16,
         numbers: usize,
     ) -> GvCompared;
+    fn gv_rack_empty() -> GvRack;
+    fn gv_rack_load(
+        rack: GvRack,
+        slot: u32,
+        level: u32,
+        os2: *const u8,
+        os2_length: usize,
+        name: *const u8,
+        name_length: usize,
+    ) -> GvLoaded;
+    fn gv_rack_unload(rack: GvRack, slot: u32) -> GvLoaded;
+    fn gv_rack_request(
+        rack: GvRack,
+        family: *const u8,
+        length: usize,
+        weight: u32,
+        width: u32,
+        slope: u32,
+    ) -> GvChosen;
 }
 
 /// The library's functions on slices, answering in its own words.
@@ -229,6 +289,47 @@ pub mod raw {
                 right.len(),
                 room.as_mut_ptr(),
                 room.len(),
+            )
+        }
+    }
+
+    // The library is handed the rack by value, as C hands it.
+
+    #[inline]
+    pub fn empty() -> GvRack {
+        unsafe { gv_rack_empty() }
+    }
+
+    #[inline]
+    pub fn load(rack: &GvRack, slot: u32, level: u32, os2: &[u8], name: &[u8]) -> GvLoaded {
+        unsafe {
+            gv_rack_load(
+                *rack,
+                slot,
+                level,
+                os2.as_ptr(),
+                os2.len(),
+                name.as_ptr(),
+                name.len(),
+            )
+        }
+    }
+
+    #[inline]
+    pub fn unload(rack: &GvRack, slot: u32) -> GvLoaded {
+        unsafe { gv_rack_unload(*rack, slot) }
+    }
+
+    #[inline]
+    pub fn request(rack: &GvRack, r: &Request) -> GvChosen {
+        unsafe {
+            gv_rack_request(
+                *rack,
+                r.family.as_ptr(),
+                r.family.len(),
+                r.weight,
+                r.width,
+                u32::from(r.sloped),
             )
         }
     }
@@ -362,4 +463,35 @@ pub fn compare_os2(left: &[u8], right: &[u8], level: u32, room: &mut [i64]) -> C
 
 pub fn compare_names(left: &[u8], right: &[u8], room: &mut [u16]) -> Compared {
     compared(raw::compare_names(left, right, room))
+}
+
+/// The rack is the one that the library gives also where it refuses.
+pub fn load(rack: &mut GvRack, slot: u32, level: u32, os2: &[u8], name: &[u8]) -> Result<()> {
+    let loaded = raw::load(rack, slot, level, os2, name);
+    *rack = loaded.rack;
+    none_or(loaded.refusal, ())
+}
+
+/// The rack is the one that the library gives also where it refuses.
+pub fn unload(rack: &mut GvRack, slot: u32) -> Result<()> {
+    let loaded = raw::unload(rack, slot);
+    *rack = loaded.rack;
+    none_or(loaded.refusal, ())
+}
+
+pub fn request(rack: &GvRack, r: &Request) -> Result<u32> {
+    let chosen = raw::request(rack, r);
+    none_or(chosen.refusal, chosen.slot)
+}
+
+/// What each slot holds.
+pub fn faces(rack: &GvRack) -> [Option<Face>; 32] {
+    rack.slots.map(|slot| {
+        (1..=64).contains(&slot.length).then(|| Face {
+            weight: slot.weight,
+            width: slot.width,
+            sloped: slot.sloped != 0,
+            family: slot.family[..usize::from(slot.length)].to_vec(),
+        })
+    })
 }

@@ -1,7 +1,8 @@
 //! Plain safe Rust: the rules written down one after the other, each number read where it is wanted.
 
 use crate::answers::{
-    Answer, Compared, Entry, Optical, Refusal, Result, Text, Version, Written, refuse, refuse_at,
+    self, Answer, Compared, Entry, Optical, Refusal, Request, Result, Text, Version, Written,
+    refuse, refuse_at,
 };
 use std::cmp::Ordering;
 
@@ -702,4 +703,115 @@ pub fn write_names(entries: &[Entry], pool: &[u8], room: &mut [u8]) -> Written {
         offset += length;
     }
     Ok(storage + offset)
+}
+
+// ---- a chooser for the rack
+
+#[derive(Clone, Copy)]
+struct Face {
+    weight: u16,
+    width: u16,
+    sloped: bool,
+    length: u8,
+    family: [u8; 64],
+}
+
+impl Face {
+    fn family(&self) -> &[u8] {
+        &self.family[..usize::from(self.length)]
+    }
+}
+
+#[derive(Clone, Copy)]
+pub struct Rack {
+    slots: [Option<Face>; 32],
+}
+
+impl Rack {
+    #[inline(never)]
+    pub fn empty() -> Rack {
+        Rack {
+            slots: [const { None }; 32],
+        }
+    }
+
+    /// What each slot holds.
+    pub fn faces(&self) -> [Option<answers::Face>; 32] {
+        self.slots.each_ref().map(|slot| {
+            slot.as_ref().map(|face| answers::Face {
+                weight: face.weight,
+                width: face.width,
+                sloped: face.sloped,
+                family: face.family().to_vec(),
+            })
+        })
+    }
+}
+
+#[inline(never)]
+pub fn load(rack: &mut Rack, slot: u32, level: u32, os2: &[u8], name: &[u8]) -> Result<()> {
+    if level > 5 {
+        return refuse(1);
+    }
+    let Some(slot) = rack.slots.get_mut(slot as usize) else {
+        return refuse(54);
+    };
+    if slot.is_some() {
+        return refuse(53);
+    }
+    if accepted(os2, level)? > level {
+        return refuse(52);
+    }
+    check(name)?;
+    let found = find(name, (3, 1, 0x409, 16)).or_else(|| find(name, (3, 1, 0x409, 1)));
+    let Some(text) = found else {
+        return refuse(20);
+    };
+    let text = bytes(name, text);
+    if text.is_empty() || text.len() > 64 {
+        return refuse(51);
+    }
+    let mut family = [0; 64];
+    family[..text.len()].copy_from_slice(text);
+    *slot = Some(Face {
+        weight: u16_at(os2, 4),
+        width: u16_at(os2, 6),
+        sloped: u16_at(os2, 62) & 1 != 0,
+        length: text.len() as u8,
+        family,
+    });
+    Ok(())
+}
+
+#[inline(never)]
+pub fn unload(rack: &mut Rack, slot: u32) -> Result<()> {
+    let Some(slot) = rack.slots.get_mut(slot as usize) else {
+        return refuse(54);
+    };
+    if slot.is_none() {
+        return refuse(55);
+    }
+    *slot = None;
+    Ok(())
+}
+
+#[inline(never)]
+pub fn request(rack: &Rack, wanted: &Request) -> Result<u32> {
+    let faces = rack.slots.iter().enumerate();
+    let chosen = faces
+        .filter_map(|(i, slot)| Some((i, slot.as_ref()?)))
+        .filter(|(_, face)| face.family() == wanted.family)
+        .min_by_key(|(i, face)| {
+            (
+                face.sloped != wanted.sloped,
+                wanted.width.abs_diff(face.width.into()),
+                wanted.weight.abs_diff(face.weight.into()),
+                face.weight,
+                *i,
+            )
+        });
+    match chosen {
+        Some((i, _)) => Ok(i as u32),
+        None => refuse(50),
+    }
 }

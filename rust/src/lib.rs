@@ -1,4 +1,5 @@
-//! Reads the 'name' and 'OS/2' tables of a font, lists what differs between two of them, and writes both.
+//! Reads the 'name' and 'OS/2' tables of a font, lists what differs between two of them, writes both, and chooses among loaded
+//! faces.
 //!
 //! A font file is a set of tables. Two of them say what the font is called and how it fits in with others: 'name' holds
 //! strings in several languages, and 'OS/2' holds some fifty numbers. This crate takes the bytes of such a table, wherever
@@ -89,10 +90,16 @@
 //! [`os2::compare`] and [`name::compare`] list what differs between two tables, in rows that the caller lends: the fields with
 //! different answers at a level, or the keys that only one table has and those with other string bytes.
 //!
+//! # A chooser
+//!
+//! A [`rack::Rack`] has 32 slots for faces. A [load](rack::Rack::load) takes a font's two tables, and a
+//! [request](rack::Rack::request) for a family, weight, width and slope is answered with the slot of the loaded face of that
+//! family that is nearest.
+//!
 //! # Numbers
 //!
-//! Levels, fields, bits and the parts of a key are plain `u32` numbers, and any number gets an answer: one that is out of
-//! range gets its own refusal, and a key part above 65,535 is in no record.
+//! Levels, fields, bits, slots and the parts of a key are plain `u32` numbers, and any number gets an answer: one that is out
+//! of range gets its own refusal, and a key part above 65,535 is in no record.
 
 #![no_std]
 #![deny(missing_docs)]
@@ -100,6 +107,7 @@
 
 pub mod name;
 pub mod os2;
+pub mod rack;
 #[allow(unsafe_code)]
 mod raw;
 mod refusal;

@@ -320,7 +320,7 @@ pub fn compare<'a>(
 
 /// One entry of a table to be written: the four numbers of its record, and where its text lies in the pool.
 ///
-/// Any numbers may stand here: [`write`] says what is wrong with them.
+/// Any numbers may stand here: [`write`](fn@write) says what is wrong with them.
 #[repr(C)]
 #[derive(Clone, Copy, Debug, PartialEq, Eq, Hash)]
 pub struct Entry {

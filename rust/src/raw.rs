@@ -4,12 +4,12 @@
 //!
 //! What makes every call below sound is the same. A slice lends `len()` bytes or entries that nobody changes (or, for the
 //! room, that nobody else touches) until the call is over, and its pointer is never null, also where the slice is empty. The
-//! library reads only the tables, the 48 numbers, the entries and the pool, writes only the room, keeps no pointer, and
-//! answers whatever the bytes and numbers are.
+//! library reads only the tables, the 48 numbers, the entries, the pool and the family, writes only the room, keeps no
+//! pointer, and answers whatever the bytes and numbers are. A rack is passed by value, and any numbers make one.
 
 use core::mem::{align_of, size_of};
 
-use crate::{name, os2};
+use crate::{name, os2, rack};
 
 /// `gv_refusal`.
 #[repr(C)]
@@ -96,6 +96,39 @@ pub(crate) struct Compared {
     pub(crate) rows: usize,
 }
 
+/// `gv_slot`.
+#[repr(C)]
+#[derive(Clone, Copy)]
+pub(crate) struct Slot {
+    pub(crate) weight: u16,
+    pub(crate) width: u16,
+    pub(crate) sloped: u16,
+    pub(crate) length: u16,
+    pub(crate) family: [u8; rack::FAMILY_BYTES],
+}
+
+/// `gv_rack`. Not `Copy`: it has 2,304 bytes.
+#[repr(C)]
+#[derive(Clone)]
+pub(crate) struct Rack {
+    pub(crate) slots: [Slot; rack::SLOTS as usize],
+}
+
+/// `gv_loaded`.
+#[repr(C)]
+pub(crate) struct Loaded {
+    pub(crate) refusal: Refusal,
+    pub(crate) rack: Rack,
+}
+
+/// `gv_chosen`.
+#[repr(C)]
+#[derive(Clone, Copy)]
+pub(crate) struct Chosen {
+    pub(crate) refusal: Refusal,
+    pub(crate) slot: u32,
+}
+
 // A row is five numbers and nothing else, so rows lent are numbers lent.
 const _: () = assert!(size_of::<os2::Difference>() == 5 * size_of::<i64>());
 const _: () = assert!(align_of::<os2::Difference>() == align_of::<i64>());
@@ -106,7 +139,11 @@ const _: () = assert!(align_of::<name::Difference>() == align_of::<u16>());
 const _: () = assert!(size_of::<name::Entry>() == 24);
 const _: () = assert!(align_of::<name::Entry>() == align_of::<usize>());
 
-// SAFETY: these are the seventeen functions of `include/gyalvindor.h`, with the types given there.
+// A rack is `gv_rack`: 32 slots of four 16-bit numbers and 64 bytes.
+const _: () = assert!(size_of::<Rack>() == 32 * 72);
+const _: () = assert!(align_of::<Rack>() == align_of::<u16>());
+
+// SAFETY: these are the twenty-one functions of `include/gyalvindor.h`, with the types given there.
 unsafe extern "C" {
     fn gv_name_check(table: *const u8, length: usize) -> Refusal;
     fn gv_name_lookup(
@@ -159,6 +196,25 @@ unsafe extern "C" {
         room: *mut u16,
         numbers: usize,
     ) -> Compared;
+    fn gv_rack_empty() -> Rack;
+    fn gv_rack_load(
+        rack: Rack,
+        slot: u32,
+        level: u32,
+        os2: *const u8,
+        os2_length: usize,
+        name: *const u8,
+        name_length: usize,
+    ) -> Loaded;
+    fn gv_rack_unload(rack: Rack, slot: u32) -> Loaded;
+    fn gv_rack_request(
+        rack: Rack,
+        family: *const u8,
+        length: usize,
+        weight: u32,
+        width: u32,
+        slope: u32,
+    ) -> Chosen;
 }
 
 pub(crate) fn name_check(table: &[u8]) -> Refusal {
@@ -291,6 +347,53 @@ pub(crate) fn name_compare(left: &[u8], right: &[u8], rows: &mut [name::Differen
             right.len(),
             rows.as_mut_ptr().cast(),
             5 * rows.len(),
+        )
+    }
+}
+
+pub(crate) fn rack_empty() -> Rack {
+    // SAFETY: nothing is lent.
+    unsafe { gv_rack_empty() }
+}
+
+pub(crate) fn rack_load(rack: &Rack, slot: u32, level: u32, os2: &[u8], name: &[u8]) -> Loaded {
+    // SAFETY: each table lends `len()` readable bytes from a pointer that is not null. The rack is passed by value; any slot
+    // and level may be given.
+    unsafe {
+        gv_rack_load(
+            rack.clone(),
+            slot,
+            level,
+            os2.as_ptr(),
+            os2.len(),
+            name.as_ptr(),
+            name.len(),
+        )
+    }
+}
+
+pub(crate) fn rack_unload(rack: &Rack, slot: u32) -> Loaded {
+    // SAFETY: nothing is lent, and the rack is passed by value; any slot may be given.
+    unsafe { gv_rack_unload(rack.clone(), slot) }
+}
+
+pub(crate) fn rack_request(
+    rack: &Rack,
+    family: &[u8],
+    weight: u32,
+    width: u32,
+    slope: u32,
+) -> Chosen {
+    // SAFETY: the family lends `len()` readable bytes from a pointer that is not null. The rack is passed by value; any three
+    // numbers may be given.
+    unsafe {
+        gv_rack_request(
+            rack.clone(),
+            family.as_ptr(),
+            family.len(),
+            weight,
+            width,
+            slope,
         )
     }
 }

@@ -98,7 +98,7 @@ pub enum Refusal {
         /// The later record's number, counted from 0.
         record: usize,
     },
-    /// 20: no record has the key; for the version number, neither of its two keys.
+    /// 20: no record has the key; for the version number and for a face's family, neither of its two keys.
     NoRecord,
     /// 21: neither PostScript record is there.
     NoPostScriptRecord,
@@ -131,6 +131,18 @@ pub enum Refusal {
     },
     /// 33: the room to write in is shorter than the 'name' table.
     NameRoomTooShort,
+    /// 50: no loaded face has the family.
+    NoSuchFamily,
+    /// 51: the family of the font to be loaded is empty or has over 64 bytes.
+    FamilyLength,
+    /// 52: the version of the 'OS/2' table is above the level.
+    NewerThanLevel,
+    /// 53: the slot is taken.
+    SlotTaken,
+    /// 54: the slot is above 31.
+    NoSuchSlot,
+    /// 55: the slot is empty.
+    SlotEmpty,
 }
 
 /// The rules that the values of an 'OS/2' table have to keep. They are checked in this order.
@@ -208,7 +220,7 @@ impl fmt::Display for Rule {
 }
 
 impl Refusal {
-    /// The refusal's number: 1 to 8, 10 to 25, 27, or 29 to 33.
+    /// The refusal's number: 1 to 8, 10 to 25, 27, 29 to 33, or 50 to 55.
     pub const fn number(self) -> u32 {
         match self {
             Refusal::UnknownLevel => 1,
@@ -241,6 +253,12 @@ impl Refusal {
             Refusal::TextPassesPool { .. } => 31,
             Refusal::OffsetTooFar { .. } => 32,
             Refusal::NameRoomTooShort => 33,
+            Refusal::NoSuchFamily => 50,
+            Refusal::FamilyLength => 51,
+            Refusal::NewerThanLevel => 52,
+            Refusal::SlotTaken => 53,
+            Refusal::NoSuchSlot => 54,
+            Refusal::SlotEmpty => 55,
         }
     }
 
@@ -301,6 +319,12 @@ impl Refusal {
             31 => Refusal::TextPassesPool { entry: carried },
             32 => Refusal::OffsetTooFar { entry: carried },
             33 => Refusal::NameRoomTooShort,
+            50 => Refusal::NoSuchFamily,
+            51 => Refusal::FamilyLength,
+            52 => Refusal::NewerThanLevel,
+            53 => Refusal::SlotTaken,
+            54 => Refusal::NoSuchSlot,
+            55 => Refusal::SlotEmpty,
             number => unreachable!("the library knows no refusal {number}"),
         })
     }
@@ -382,6 +406,14 @@ impl fmt::Display for Refusal {
             Refusal::NameRoomTooShort => {
                 f.write_str("the room to write in is shorter than the 'name' table")
             }
+            Refusal::NoSuchFamily => f.write_str("no loaded face has the family"),
+            Refusal::FamilyLength => f.write_str("the family is empty or has over 64 bytes"),
+            Refusal::NewerThanLevel => {
+                f.write_str("the version of the 'OS/2' table is above the level")
+            }
+            Refusal::SlotTaken => f.write_str("the slot is taken"),
+            Refusal::NoSuchSlot => f.write_str("the slot is above 31"),
+            Refusal::SlotEmpty => f.write_str("the slot is empty"),
         }
     }
 }

@@ -1,7 +1,7 @@
-//! A second, independent reader and writer of 'name' and of 'OS/2' tables and
-//! comparison of two of either, written from document 01, "The font desk's rules
-//! for 'name' and 'OS/2'", and Asks 1 to 5 of document 02, "The next customer
-//! requests", alone.
+//! A second, independent reader and writer of 'name' and of 'OS/2' tables,
+//! comparison of two of either and chooser among loaded faces, written from
+//! document 01, "The font desk's rules for 'name' and 'OS/2'", and Asks 1 to 7 of
+//! document 02, "The next customer requests", alone.
 //!
 //! It exists to be compared with another program. So it is written for plain
 //! reading in the order of document 01, and not for speed.
@@ -10,12 +10,14 @@
 //!   the writer (document 02, Ask 5).
 //! * [`os2`]: the 'OS/2' acceptance, the seven questions, the writer, rewriting.
 //! * [`compare`]: what changed between two tables (document 02, Ask 2).
+//! * [`chooser`]: the chooser for the rack (document 02, Ask 7).
 //! * [`listing`]: the lines of the listing program and of the compare tool.
 //! * [`sfnt`]: cuts the two tables out of a font file (not part of document 01).
 
 #![forbid(unsafe_code)]
 #![warn(missing_docs)]
 
+pub mod chooser;
 pub mod compare;
 pub mod listing;
 pub mod name;
@@ -25,7 +27,8 @@ pub mod sfnt;
 use std::fmt;
 
 /// A refusal: its number in document 01's table, 29 of document 02's Ask 2, 19
-/// or 27 of its Ask 3, or 30 to 33 of its Ask 5, and what it carries.
+/// or 27 of its Ask 3, 30 to 33 of its Ask 5, or 50 to 55 of its Ask 7, and what
+/// it carries.
 ///
 /// 3 carries the first rule broken (1 to 7), 8 the lowest field that does not
 /// fit, 15, 17, 18, 19 and 27 a record, 16 a tag; of a table to write, 17, 18,

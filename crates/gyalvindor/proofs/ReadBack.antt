@@ -6,11 +6,11 @@ use mathlib.Core.Path.{_≡_, refl, subst}
 use mathlib.Core.Bool.{Bool, true, false, cond}
 use mathlib.Core.Option.{Option, none, some}
 use mathlib.Core.List.{List}
-use lib.Dec.{leb}
+use lib.Dec.{leb, eqb}
 use lib.IntN.{ℤ}
 use native.Mathlib.Omega.{arith}
 use Rattle.outcomes.specs.Firsts.{when, _then_}
-use Rattle.outcomes.specs.Outcomes.{Refusal, bare, Outcome, refused, answered, foundOr}
+use Rattle.outcomes.specs.Outcomes.{Refusal, bare, Outcome, refused, answered, unless, foundOr}
 use Rattle.outcomes.proofs.Laws.{Only, only-when, only-then, only-first}
 use Rattle.outcomes.proofs.Tests.{unequal}
 use Rattle.name_layout.specs.Keys.{Key, keyFrom}
@@ -46,6 +46,14 @@ use Rattle.name_words.specs.Words.{textWords, versionWords}
 use Rattle.name_words.proofs.ReadBack.{textSaid, text-back, versionSaid, version-back, number-back}
 use Rattle.os2_words.specs.Words.{membersOf, numberWords, rightsWords, styleWords, opticalWords, writtenWords}
 use Rattle.os2_words.proofs.ReadBack.{saidBy, numberSaid, rightsSaid, styleSaid, sizesIn, opticalSaid, sizes-back, writtenSaid, written-back}
+use Rattle.name_search.specs.declared.Text.{Text}
+use Rattle.choice.specs.declared.Want.{Want}
+use Rattle.choice.specs.Faces.{Face, Slots}
+use Rattle.choice.specs.Ranks.{requestOf}
+use Rattle.face.specs.Reading.{refusalIn, os2Fault, familyKey, orElse, familyOf, named, faceIn}
+use Rattle.chooser.specs.Calls.{beforeTables, loadOf, emptying, unloadOf, doneOf}
+use Rattle.chooser_words.specs.Words.{chosenWords}
+use Rattle.chooser_words.proofs.Words.{chosenSaid, chosen-back}
 use Rattle.comparing.specs.declared.Side.{Side}
 use Rattle.comparing.specs.declared.Side.the-variants.{Neither, Left, Right}
 use Rattle.comparing.specs.Comparisons.{on, of, blame}
@@ -221,3 +229,59 @@ pub os2-compare-said : (L : ℕ) (left right : List ℕ) (numbers : ℕ) → com
 unfolding fields.comparedOf fields.blameOf fields.levelRefusal
 os2-compare-said L left right numbers =
     compared-back _ _ (blame-numbered (when _ _) (judged L left) (judged L right) _ numbers (one _ _ refl) (judged-numbered L left) (judged-numbered L right))
+
+-- ---- the chooser
+
+none-numbered : Only Numbered none
+none-numbered r e = let z : _≡_ {A = ℕ} 0 1 = cc in absurd (omega arith)
+
+refusal-unless : {A : Type 0} (r : Option Refusal) (o : Outcome A) → Only Numbered r → Only Numbered (refusalIn o) → Only Numbered (refusalIn (unless r o))
+unfolding unless
+refusal-unless none o p q = q
+refusal-unless (some x) o p q = p
+
+lookup-numbered : (t : List ℕ) (k : Key) → Only Numbered (refusalIn (lookupOf t k))
+unfolding lookupOf foundOr when
+lookup-numbered t k = refusal-unless (faults t) _ (faults-numbered t) (at (recordWith t k))
+  where
+    at : (o : Option ℕ) → Only Numbered (refusalIn (foundOr (bare 20) o (λ i. answered (textOf t i))))
+    at none = one true (bare 20) refl
+    at (some i) = none-numbered
+
+family-numbered : (n : List ℕ) → Only Numbered (refusalIn (familyOf n))
+unfolding familyOf orElse
+family-numbered n = at (lookupOf n (familyKey 16)) (lookup-numbered n (familyKey 16))
+  where
+    by : (k : ℕ) (c : Option ℕ) → Only Numbered (some (record { number = k; carried = c })) → (t : Bool) → Only Numbered (refusalIn (cond t (lookupOf n (familyKey 1)) (refused k c)))
+    by k c p true = lookup-numbered n (familyKey 1)
+    by k c p false = p
+
+    at : (o : Outcome Text) → Only Numbered (refusalIn o) → Only Numbered (refusalIn (orElse o (lookupOf n (familyKey 1))))
+    at (answered x) p = none-numbered
+    at (refused k c) p = by k c p (eqb k 20)
+
+face-numbered : (L : ℕ) (b n : List ℕ) → Only Numbered (refusalIn (faceIn L b n))
+unfolding faceIn os2Fault named ask
+face-numbered L b n =
+    refusal-unless _ _ (both _ _ (refusal-unless _ _ (both _ _ (before-numbered L (Field 0)) (judged-numbered L b)) none-numbered) (one _ _ refl)) (at (familyOf n) (family-numbered n))
+  where
+    at : (o : Outcome Text) → Only Numbered (refusalIn o) → Only Numbered (refusalIn (named L b n o))
+    at (refused k c) p = p
+    at (answered x) p = refusal-unless _ _ (one _ _ refl) none-numbered
+
+done-back : (o : Outcome Face) → Only Numbered (refusalIn o) → checkSaid (outcomeRefusal o) ≡ doneOf o
+unfolding doneOf outcomeRefusal unless
+done-back (answered f) p = refl
+done-back (refused k c) p = check-back (some (record { number = k; carried = c })) p
+
+-- what a load says, but for the face
+pub load-said : (m : Slots) (i L : ℕ) (b n : List ℕ) → checkSaid (outcomeRefusal (loadOf m i L b n)) ≡ doneOf (loadOf m i L b n)
+unfolding loadOf beforeTables
+load-said m i L b n = done-back (loadOf m i L b n) (refusal-unless _ _ (both _ _ (one _ _ refl) (both _ _ (one _ _ refl) (one _ _ refl))) (face-numbered L b n))
+
+pub unload-said : (m : Slots) (i : ℕ) → checkSaid (outcomeRefusal (unloadOf m i)) ≡ unloadOf m i
+unfolding unloadOf emptying
+unload-said m i = check-back _ (both _ _ (one _ _ refl) (one _ _ refl))
+
+pub request-said : (m : Slots) (family : List ℕ) (w : Want) → chosenSaid (chosenWords (requestOf m family w)) ≡ requestOf m family w
+request-said = chosen-back

@@ -1,7 +1,7 @@
-// The readers, the comparison and the writers for C and Rust: the functions of the static library, each answering in plain numbers.
-// Document 01, whole, and document 02, Asks 1 to 5; `include/gyalvindor.h` says the same to a C programmer.
-// Relies on `name`, `name_lookup`, `name_strings` and `name_writer`, on `os2` and `os2_writer`, on `name_compare` and `os2_compare`, which answer, and on
-// `name_words`, `name_writer_words`, `os2_words` and `compare_words`, which put an answer into words of C.
+// The readers, the comparison, the writers and the chooser for C and Rust: the functions of the static library, each answering in plain numbers.
+// Document 01, whole, and document 02, Asks 1 to 7; `include/gyalvindor.h` says the same to a C programmer.
+// Relies on `name`, `name_lookup`, `name_strings` and `name_writer`, on `os2` and `os2_writer`, on `name_compare`, `os2_compare` and `chooser`, which answer, and on
+// `name_words`, `name_writer_words`, `os2_words`, `compare_words` and `chooser_words`, which put an answer into words of C.
 ghost use mathlib.Core.Path.{_≡_};
 ghost use lib.ListN.{length};
 ghost use Rattle.name_layout.specs.Keys.{keyFrom};
@@ -20,6 +20,16 @@ ghost use Rattle.compare_words.specs.Words.{comparedWords};
 ghost use Rattle.refusal_words.specs.Words.{outcomeRefusal};
 ghost use Rattle.name_words.specs.Words.{textWords, versionWords};
 ghost use Rattle.os2_words.specs.Words.{numberWords, rightsWords, styleWords, opticalWords, writtenWords};
+ghost use Rattle.choice.specs.Ranks.{requestOf};
+ghost use Rattle.chooser.specs.Racks.{held};
+ghost use Rattle.chooser.specs.Calls.{nobody, loadOf, unloadOf, afterLoad, afterUnload};
+ghost use Rattle.chooser_words.specs.Words.{chosenWords, wantOf};
+use chooser::Rack;
+use chooser_words::GvChosen;
+use chooser_words::GvLoaded;
+use chooser_words::change_words;
+use chooser_words::choice_words;
+use chooser_words::want_of;
 use compare_words::GvCompared;
 use compare_words::name_compared_words;
 use compare_words::os2_compared_words;
@@ -192,4 +202,62 @@ pub extern "C" fn gv_name_compare(left: &[u8], right: &[u8], room: &mut [u16]) -
     ensures { λ r. ⌜ (r ≡ comparedWords (names.comparedOf (now (left .entry)) (now (right .entry)) (length (now (room .entry))))) × (now (room .exit) ≡ names.roomOf (now (left .entry)) (now (right .entry)) (now (room .entry))) ⌝ }
 {
     name_compared_words(name_compare::compare(left, right, room))
+}
+
+// A rack of empty slots.
+#[no_mangle]
+pub extern "C" fn gv_rack_empty() -> Rack
+    ensures { λ r. ⌜ held r ≡ nobody ⌝ }
+{
+    chooser::empty()
+}
+
+// Loads a face, by its two tables read at a level, into a slot of a rack.
+#[no_mangle]
+pub extern "C" fn gv_rack_load(
+    rack: Rack,
+    slot: u32,
+    level: u32,
+    os2: &[u8],
+    name: &[u8],
+) -> GvLoaded
+    ensures { λ r. ⌜ (r .refusal ≡ outcomeRefusal (loadOf (held rack) slot level (now (os2 .entry)) (now (name .entry)))) × (held (r .rack) ≡ afterLoad (held rack) slot (loadOf (held rack) slot level (now (os2 .entry)) (now (name .entry)))) ⌝ }
+{
+    let loaded = chooser::load(rack, slot, level, os2, name);
+    let answer = loaded.answer;
+    let refusal = change_words(answer);
+    let after = loaded.rack;
+    GvLoaded {
+        refusal,
+        rack: after,
+    }
+}
+
+// Empties a slot of a rack.
+#[no_mangle]
+pub extern "C" fn gv_rack_unload(rack: Rack, slot: u32) -> GvLoaded
+    ensures { λ r. ⌜ (r .refusal ≡ outcomeRefusal (unloadOf (held rack) slot)) × (held (r .rack) ≡ afterUnload (held rack) slot (unloadOf (held rack) slot)) ⌝ }
+{
+    let loaded = chooser::unload(rack, slot);
+    let answer = loaded.answer;
+    let refusal = change_words(answer);
+    let after = loaded.rack;
+    GvLoaded {
+        refusal,
+        rack: after,
+    }
+}
+
+// Chooses among the faces of a family in a rack.
+#[no_mangle]
+pub extern "C" fn gv_rack_request(
+    rack: Rack,
+    family: &[u8],
+    weight: u32,
+    width: u32,
+    slope: u32,
+) -> GvChosen
+    ensures { λ r. ⌜ r ≡ chosenWords (requestOf (held rack) (now (family .entry)) (wantOf weight width slope)) ⌝ }
+{
+    choice_words(chooser::request(rack, family, want_of(weight, width, slope)))
 }

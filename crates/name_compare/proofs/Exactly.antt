@@ -17,9 +17,10 @@ use Rattle.name_search.specs.Searches.{recordWith}
 use Rattle.name_search.proofs.Finds.{find-has, find-at, find-none}
 use Rattle.comparing.specs.Lists.{ListOf}
 use Rattle.comparing.proofs.Lists.{in-list, rises, none-so}
-use Rattle.name_compare.specs.Differences.{Difference, onlyLeft, onlyRight, otherBytes, same, inBoth, whichOf, entryFor, keyNumbered, keyCount, differenceAt, differences}
+use Rattle.same_bytes.specs.Same.{same}
+use Rattle.same_bytes.proofs.Strings.{same-exactly}
+use Rattle.name_compare.specs.Differences.{Difference, onlyLeft, onlyRight, otherBytes, inBoth, whichOf, entryFor, keyNumbered, keyCount, differenceAt, differences}
 use Rattle.name_compare.specs.Settled.{Differs, only-left, only-right, other-bytes, DifferenceBelow}
-use Rattle.name_compare.proofs.Strings.{same-exactly}
 use Rattle.name_compare.proofs.KeyNumbers.{numbered-packed, numbered-small, packed-below, packed-numbered}
 
 -- ---- an entry is that of a key on which the tables differ

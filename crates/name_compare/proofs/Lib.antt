@@ -1,4 +1,3 @@
-pub mod Strings
 pub mod KeyNumbers
 pub mod Merges
 pub mod Rows

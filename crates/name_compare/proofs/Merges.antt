@@ -19,7 +19,8 @@ use Rattle.name_search.proofs.Finds.{ordered}
 use Rattle.name_search.proofs.Halvings.{Rising, scan, scan-none, scan-found}
 use Rattle.comparing.specs.Lists.{entryOf, listBelow}
 use Rattle.comparing.proofs.Lists.{no-entry, one-at-most, skip, shorter, whole}
-use Rattle.name_compare.specs.Differences.{Difference, onlyLeft, onlyRight, same, inBoth, whichOf, entryFor, keyNumbered, keyCount, differenceAt, differences}
+use Rattle.same_bytes.specs.Same.{same}
+use Rattle.name_compare.specs.Differences.{Difference, onlyLeft, onlyRight, inBoth, whichOf, entryFor, keyNumbered, keyCount, differenceAt, differences}
 use Rattle.name_compare.specs.Steps.{keyAt, Cut, Reached, Both, passed}
 use Rattle.name_compare.proofs.KeyNumbers.{by-number}
 

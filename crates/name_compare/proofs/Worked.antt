@@ -16,7 +16,8 @@ use Rattle.name_tests.specs.Tests.{stringPasses, startsBeyond, runsOver, forbid
 use Rattle.name.specs.Acceptance.{layoutFault, recordFault, tagFault, faults}
 use Rattle.comparing.specs.Rooms.{rowsOf, tooMany, front}
 use Rattle.comparing.specs.Comparisons.{of, blame, answerOf, roomAfter}
-use Rattle.name_compare.specs.Differences.{same, keyNumbered, rowOf}
+use Rattle.same_bytes.specs.Same.{same}
+use Rattle.name_compare.specs.Differences.{keyNumbered, rowOf}
 use Rattle.name_compare.specs.Comparisons.{blameOf, comparedOf, roomOf}
 use Rattle.name_compare.specs.Steps.{keyAt, Both, passed}
 use Rattle.name_compare.specs.Examples.{left, right, Listed, AnswersHold, RoomsHold}

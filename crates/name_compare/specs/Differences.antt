@@ -1,15 +1,15 @@
 -- Document 02, Ask 2: "For 'name': keys only on the left, only on the right, and in both with other string bytes, all in one key order, each key once and with
 -- which of the three it is."
 use Prim.Native.Nat.{ℕ, _/_, _%_}
-use mathlib.Core.Bool.{Bool, true, false, not, _&&_}
+use mathlib.Core.Bool.{Bool, not}
 use mathlib.Core.Option.{Option, none, some}
 use mathlib.Core.List.{List, [], _∷_}
-use lib.Dec.{eqb}
 use Rattle.outcomes.specs.Firsts.{when}
 use Rattle.name_layout.specs.Layout.{bytesOf}
 use Rattle.name_layout.specs.Keys.{Key, keyFrom}
 use Rattle.name_search.specs.Searches.{recordWith}
 use Rattle.comparing.specs.Lists.{listBelow}
+use Rattle.same_bytes.specs.Same.{same}
 
 -- a key on which two tables differ, and which of the three it is
 pub record Difference : Type 0 where
@@ -24,13 +24,6 @@ onlyRight = 2
 
 abbrev pub otherBytes : ℕ
 otherBytes = 3
-
--- two strings have the same bytes
-unfoldable pub same : List ℕ → List ℕ → Bool
-same [] [] = true
-same [] (b ∷ y) = false
-same (a ∷ x) [] = false
-same (a ∷ x) (b ∷ y) = eqb a b && same x y
 
 -- a key in both is listed where its strings are not the same
 unfoldable pub inBoth : Bool → Option ℕ

@@ -1,6 +1,7 @@
 // Two 'name' tables compared: the keys that only one of them has, and those that both have with other string bytes, in key order.
 // Document 02, Ask 2, and refusal 29. It relies on `name` for the check: the records of an accepted table are in the order of their keys, so one pass over
-// both, side by side, meets each key once; on `name_search` for a record's string, and on `comparing` for the list and its rows.
+// both, side by side, meets each key once; on `name_search` for a record's string, on `same_bytes` for whether two are the same, and on `comparing` for the list and
+// its rows.
 ghost use mathlib.Core.Path.{_≡_};
 ghost use mathlib.Core.Bool.{cond};
 ghost use Prim.Native.Nat.{_+_, _*_, _/_, _≤_};
@@ -10,7 +11,8 @@ ghost use lib.Seq.{sets};
 ghost use Rattle.name_layout.specs.Layout.{bytesOf};
 ghost use Rattle.comparing.specs.Rooms.{rowsOf, front};
 ghost use Rattle.comparing.specs.Comparisons.{blamedOf};
-ghost use Rattle.name_compare.specs.Differences.{same, rowOf, differences};
+ghost use Rattle.same_bytes.specs.Same.{same};
+ghost use Rattle.name_compare.specs.Differences.{rowOf, differences};
 ghost use Rattle.name_compare.specs.Comparisons.{saidRefusal, saidCompared, comparedOf, roomOf};
 ghost use Rattle.name_compare.specs.Steps.{Both, Within, Records, Stepped, passed};
 use comparing::Blame;
@@ -22,6 +24,7 @@ use name_layout::key_at;
 use name_layout::record_count;
 use name_search::text_of;
 use outcomes::Told;
+use same_bytes::same;
 
 // What a key is, in a row. A key in both with the same string is none of them.
 const NO_DIFFERENCE: u16 = 0;
@@ -201,20 +204,4 @@ fn same_string(left: &[u8], right: &[u8], i: usize, j: usize) -> bool
     let start = b.start;
     let end = start + b.len;
     same(&left[from..to], &right[start..end])
-}
-
-// Whether two strings have the same bytes. It goes through the whole of two that are equally long, so that it can look at many bytes at once.
-fn same(a: &[u8], b: &[u8]) -> bool
-    ensures { λ r. ⌜ r ≡ same (now (a .entry)) (now (b .entry)) ⌝ }
-{
-    if a.len() != b.len() {
-        return false;
-    }
-    let mut equal = true;
-    let mut i = 0;
-    while i < a.len() {
-        equal = equal & (a[i] == b[i]);
-        i += 1;
-    }
-    equal
 }

@@ -2,3 +2,4 @@ pub mod Starred
 pub mod Bits
 pub mod Records
 pub mod Which
+pub mod Loads

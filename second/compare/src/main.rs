@@ -2,7 +2,13 @@
 //! and stops at the first difference. The README says what is asked.
 
 mod ask;
+mod calls;
 mod cases;
+mod choose_cases;
+mod choose_met;
+mod choose_sweeps;
+mod choosing;
+mod chosen;
 mod entries;
 mod faults;
 mod fonts;
@@ -18,6 +24,7 @@ mod raw;
 mod record_sweeps;
 mod records;
 mod rows;
+mod sequences;
 mod sides;
 mod sweeps;
 mod tally;
@@ -31,10 +38,12 @@ use std::io::{IsTerminal, Write};
 use std::ops::Range;
 use std::path::{Path, PathBuf};
 use std::process::ExitCode;
+use std::rc::Rc;
 use std::time::{Duration, Instant, SystemTime, UNIX_EPOCH};
-use std::{env, fs, io, process};
+use std::{env, fs, io, process, slice};
 
-use ask::{caught, Amount, Asker, Difference};
+use ask::{caught, Amount, Asker, Difference, LEVELS};
+use calls::Calls;
 use entries::List;
 use make::Made;
 use numbers::Numbers;
@@ -42,8 +51,8 @@ use tally::Tally;
 
 const USAGE: &str = "usage: compare [OPTION]... [FOLDER]...
 Compares the archive and the Rust crate over it with the second program on the rows of document 01 and of document 02's Asks 1
-to 5, in sweeps over the places that the rules look at, on tables made at random, and on the fonts under the folders. Without
-folders: the fonts installed on the machine.
+to 7, in sweeps over the places that the rules look at, on tables and calls made at random, and on the fonts under the folders.
+Without folders: the fonts installed on the machine.
 
   --rows, --sweeps, --random, --fonts
                   only these parts
@@ -57,7 +66,8 @@ folders: the fonts installed on the machine.
   --entries FILE POOL
                   only: write the entries in this file, one a line, with the bytes of the other as the pool
   --compare-name LEFT RIGHT, --compare-os2 LEFT RIGHT
-                  only: compare the two tables in these files";
+                  only: compare the two tables in these files
+  --calls FILE    only: make the calls of the chooser in this file, one a line";
 
 /// Prints a line. Where nobody reads it, the comparison goes on.
 macro_rules! say {
@@ -155,7 +165,7 @@ fn parse(arguments: Vec<String>) -> Result<Option<Task>, String> {
             "--seed" => task.seed = number(after()?)?,
             "--first" => task.first = number(after()?)?,
             "--bytes" => task.bytes = PathBuf::from(after()?),
-            "--name" | "--os2" | "--numbers" => {
+            "--name" | "--os2" | "--numbers" | "--calls" => {
                 let file = PathBuf::from(after()?);
                 task.single = Some((argument, vec![file]));
             }
@@ -221,6 +231,10 @@ fn single(task: &Task, option: &str, files: &[PathBuf]) -> Result<Tally, Stop> {
             let list = List::of_lines(&lines, read(&files[1])?);
             Made::Entries(list.map_err(Stop::Fault)?)
         }
+        "--calls" => {
+            let calls = Calls::of_lines(&String::from_utf8_lossy(&bytes));
+            Made::Calls(calls.map_err(Stop::Fault)?)
+        }
         _ => {
             let text = String::from_utf8_lossy(&bytes);
             let numbers: Vec<i64> = text
@@ -274,11 +288,19 @@ fn document_rows(task: &Task) -> Result<Tally, Stop> {
             stopped(task, &case.made(), difference, &place)
         })?;
     }
+    let sequences = choose_cases::cases();
+    for case in &sequences {
+        caught(|| choose_cases::ask(&mut asker, case)).map_err(|difference| {
+            let place = format!("the calls \"{}\"", case.words);
+            stopped(task, &case.made(), difference, &place)
+        })?;
+    }
     say!(
-        "documents 01 and 02: {} rows, {} comparisons and {} lists of entries, {} calls",
+        "documents 01 and 02: {} rows, {} comparisons, {} lists of entries and {} sequences of calls of the chooser, {} calls",
         rows.len(),
         cases.len(),
         lists.len(),
+        sequences.len(),
         asker.tally.calls()
     );
     Ok(asker.tally)
@@ -291,7 +313,8 @@ fn sweeps_over(task: &Task) -> Result<Tally, Stop> {
         .into_iter()
         .chain(record_sweeps::SWEEPS)
         .chain(pair_sweeps::SWEEPS)
-        .chain(write_sweeps::SWEEPS);
+        .chain(write_sweeps::SWEEPS)
+        .chain(choose_sweeps::SWEEPS);
     for (words, sweep) in groups {
         if terminal {
             eprint!("\r{:60}\rsweep: {words} ", "");
@@ -342,7 +365,7 @@ fn at_random(task: &Task) -> Result<Tally, Stop> {
     }
     if missing.is_empty() {
         say!(
-            "at random: every refusal, rule, field that does not fit, kind of answer, setting of the rights bits and thing of a comparison, of a record, of an answer and of a table to write was met"
+            "at random: every refusal, rule, field that does not fit, kind of answer, setting of the rights bits and thing of a comparison, of a record, of an answer, of a table to write and of the chooser was met"
         );
     } else {
         say!(
@@ -358,7 +381,7 @@ type Numbered = Option<(u64, Vec<u8>)>;
 
 /// What is asked beside a table made at random. The pairs in which it is compared, and with what: the table and a partner made
 /// from it, the table of its kind before it and the table, and with some tables one of 5,460 records alone and two of them.
-/// With 48 numbers to write, a list of entries. `before` holds the last 'name' and 'OS/2' table.
+/// With 48 numbers to write, a list of entries and calls of the chooser. `before` holds the last 'name' and 'OS/2' table.
 fn beside(
     task: &Task,
     number: u64,
@@ -376,10 +399,16 @@ fn beside(
             (bytes, Made::Os2Pair, partner, &mut before[1])
         }
         _ => {
-            return vec![(
-                "with a list of entries",
-                Made::Entries(lists::list(numbers)),
-            )]
+            return vec![
+                (
+                    "with a list of entries",
+                    Made::Entries(lists::list(numbers)),
+                ),
+                (
+                    "with calls of the chooser",
+                    Made::Calls(sequences::calls(numbers)),
+                ),
+            ]
         }
     };
     let mut pairs = vec![("compared with its partner", pair(bytes.clone(), partner))];
@@ -406,6 +435,9 @@ fn beside(
     pairs
 }
 
+/// A font's words, and its 'name' and 'OS/2' tables as far as it has them.
+type Face = (String, [Option<Vec<u8>>; 2]);
+
 fn installed_fonts(task: &Task) -> Result<Tally, Stop> {
     let folders = if task.folders.is_empty() {
         fonts::installed()
@@ -416,7 +448,7 @@ fn installed_fonts(task: &Task) -> Result<Tally, Stop> {
     let mut asker = Asker::new();
     let mut damaged = Asker::new();
     let mut progress = Progress::new("font files", files.len() as u64);
-    let mut faces: Vec<(String, [Option<Vec<u8>>; 2])> = Vec::new();
+    let mut faces: Vec<Face> = Vec::new();
     let mut without = [0, 0];
     for (done, path) in files.iter().enumerate() {
         let file = read(path)?;
@@ -498,6 +530,12 @@ fn installed_fonts(task: &Task) -> Result<Tally, Stop> {
             }
         }
     }
+    fonts_in_racks(task, &faces, &mut asker, &mut damaged)?;
+    if asker.tally.sequences[1..].contains(&0) {
+        return Err(Stop::Fault(
+            "of the fonts none could be loaded into a rack and chosen".to_string(),
+        ));
+    }
     say!(
         "fonts: {} files, {} fonts, of which {} have no name table and {} no OS/2 table",
         files.len(),
@@ -511,16 +549,62 @@ fn installed_fonts(task: &Task) -> Result<Tally, Stop> {
     Ok(asker.tally)
 }
 
+/// Loads each font that has both tables at every level, then all of them one after another, with requests behind each load.
+/// Then the same with tables that are damaged.
+fn fonts_in_racks(
+    task: &Task,
+    faces: &[Face],
+    asker: &mut Asker,
+    damaged: &mut Asker,
+) -> Result<(), Stop> {
+    let mut fonts: Vec<[Rc<[u8]>; 2]> = Vec::new();
+    for (done, (words, tables)) in faces.iter().enumerate() {
+        let [Some(name), Some(os2)] = tables else {
+            continue;
+        };
+        let mut numbers = Numbers::of_table(task.seed, done as u64);
+        let font: [Rc<[u8]>; 2] = [os2.as_slice().into(), name.as_slice().into()];
+        let made = Made::Calls(sequences::of_fonts(
+            &mut numbers,
+            slice::from_ref(&font),
+            &LEVELS,
+        ));
+        let place = format!("{words} in a rack");
+        one(task, asker, &made, Amount::Everything, &mut numbers, &place)?;
+        for _ in 0..DAMAGED {
+            let mut other = font.clone();
+            // One of the tables, or both.
+            let choice = numbers.below(3);
+            for (kind, table) in other.iter_mut().enumerate() {
+                if choice != kind {
+                    *table = faulty(table, &mut numbers).into();
+                }
+            }
+            let levels = [5, numbers.below(6) as u32];
+            let both = [font.clone(), other];
+            let made = Made::Calls(sequences::of_fonts(&mut numbers, &both, &levels));
+            let place = format!("{words} and a damaged copy in a rack");
+            one(task, damaged, &made, Amount::Some, &mut numbers, &place)?;
+        }
+        fonts.push(font);
+    }
+    let mut numbers = Numbers::new(task.seed);
+    let made = Made::Calls(sequences::of_fonts(&mut numbers, &fonts, &[5]));
+    let place = "all fonts in one rack";
+    one(task, asker, &made, Amount::Everything, &mut numbers, place)
+}
+
+/// A font's table with one or two faults in its bytes.
+fn faulty(bytes: &[u8], numbers: &mut Numbers) -> Vec<u8> {
+    let mut bytes = bytes.to_vec();
+    for _ in 0..1 + numbers.below(2) {
+        make::byte_fault(numbers, &mut bytes, &[6, 18, 78, 86, 96, 100]);
+    }
+    bytes
+}
+
 /// A font's table with one or two faults in its bytes, and the pair of the table and that.
 fn damage(made: &Made, numbers: &mut Numbers) -> (Made, Made) {
-    let edges = [6, 18, 78, 86, 96, 100];
-    let faulty = |bytes: &Vec<u8>, numbers: &mut Numbers| {
-        let mut bytes = bytes.clone();
-        for _ in 0..1 + numbers.below(2) {
-            make::byte_fault(numbers, &mut bytes, &edges);
-        }
-        bytes
-    };
     match made {
         Made::Name(bytes) => {
             let other = faulty(bytes, numbers);
@@ -615,6 +699,7 @@ fn one_lazily(
             let result = caught(|| asker.os2_pair(tables[0], tables[1], amount, numbers));
             (result, tables != [left, right])
         }
+        Made::Calls(calls) => (caught(|| asker.calls(calls, numbers)), false),
     };
     let result = match result {
         Ok(()) if changed => Err(Difference(
@@ -649,6 +734,7 @@ fn stopped(task: &Task, made: &Made, difference: Difference, place: &str) -> Sto
             "--compare-os2",
             vec![("left", left.clone()), ("right", right.clone())],
         ),
+        Made::Calls(calls) => ("--calls", vec![("calls", calls.lines().into_bytes())]),
     };
     let mut kept = String::new();
     let mut again = format!("  Ask again: compare {option}");
@@ -659,6 +745,7 @@ fn stopped(task: &Task, made: &Made, difference: Difference, place: &str) -> Sto
         let what = match title {
             "numbers" => "48 numbers",
             "entries" => "entries",
+            "calls" => "calls",
             "pool" => "pool's bytes",
             "left" | "right" => &format!("{title} table's bytes"),
             _ => "table's bytes",

@@ -1,14 +1,15 @@
 //! Makes tables at random: valid ones, ones with a fault at an edge, ones cut short.
 //!
 //! The makers know the rules of document 01 and of document 02's Asks 1 to 4 only to come near their edges. Whether a table is
-//! right is for the compared programs. Lists of entries to write are made in a file of their own.
+//! right is for the compared programs. Lists of entries to write and calls of the chooser are made in files of their own.
 
 use second::os2::{size, FIELDS};
 
+use crate::calls::Calls;
 use crate::entries::List;
 use crate::numbers::Numbers;
 
-/// What is made: a table, 48 numbers or a list of entries to write, or two tables to compare.
+/// What is made: a table, 48 numbers or a list of entries to write, two tables to compare, or calls of the chooser.
 #[derive(Clone)]
 pub enum Made {
     Name(Vec<u8>),
@@ -17,6 +18,7 @@ pub enum Made {
     Entries(List),
     NamePair(Vec<u8>, Vec<u8>),
     Os2Pair(Vec<u8>, Vec<u8>),
+    Calls(Calls),
 }
 
 /// Table `number` of a run: of ten, five are 'name' tables, three 'OS/2' tables, two are 48 numbers.
@@ -38,7 +40,7 @@ pub fn same_kind_before(number: u64) -> Option<u64> {
 
 // ---- 'name'
 
-type Key = [u16; 4];
+pub type Key = [u16; 4];
 
 const POSTSCRIPT_ONE: Key = [1, 0, 0, 6];
 const POSTSCRIPT_TWO: Key = [3, 1, 0x409, 6];
@@ -101,13 +103,57 @@ impl Plan {
     }
 }
 
-fn name(n: &mut Numbers) -> Vec<u8> {
-    let mut plan = valid_name(n);
+pub fn name(n: &mut Numbers) -> Vec<u8> {
+    let plan = valid_name(n);
     let faults = match n.below(20) {
         0..=9 => 0,
         10..=16 => 1,
         _ => 2,
     };
+    with_faults(n, plan, faults)
+}
+
+/// A table with these strings under these keys, of either format, with so many faults.
+pub fn name_with(n: &mut Numbers, mut strings: Vec<(Key, Vec<u8>)>, faults: usize) -> Vec<u8> {
+    strings.sort_by_key(|(key, _)| *key);
+    strings.dedup_by_key(|(key, _)| *key);
+    let before = n.below(3);
+    let mut storage = n.bytes(before);
+    let mut records = Vec::new();
+    for (key, text) in strings {
+        records.push(Record {
+            key,
+            length: text.len() as u16,
+            offset: storage.len().min(65_535) as u16,
+        });
+        storage.extend(text);
+    }
+    let tagged = n.chance(1, 2);
+    let count = if tagged { n.below(3) } else { 0 };
+    let tags = (0..count)
+        .map(|_| {
+            let (offset, length) = place_in(n, storage.len());
+            [length as u16, offset as u16]
+        })
+        .collect();
+    let gap = n.below(3);
+    let mut plan = Plan {
+        format: u16::from(tagged),
+        count: records.len() as u16,
+        start: 0,
+        records,
+        tagged,
+        tag_count: count as u16,
+        tags,
+        gap: n.bytes(gap),
+        storage,
+    };
+    plan.start = (plan.front() + plan.gap.len()) as u16;
+    with_faults(n, plan, faults)
+}
+
+/// The bytes of a plan after so many faults.
+fn with_faults(n: &mut Numbers, mut plan: Plan, faults: usize) -> Vec<u8> {
     for _ in 0..faults {
         if n.chance(3, 4) {
             name_fault(n, &mut plan);
@@ -708,10 +754,10 @@ pub fn byte_fault(n: &mut Numbers, bytes: &mut Vec<u8>, edges: &[usize]) {
 
 // ---- 'OS/2'
 
-const WEIGHT: usize = 2;
-const WIDTH: usize = 3;
+pub const WEIGHT: usize = 2;
+pub const WIDTH: usize = 3;
 const FS_TYPE: usize = 4;
-const FS_SELECTION: usize = 31;
+pub const FS_SELECTION: usize = 31;
 const LOWER: usize = 46;
 const UPPER: usize = 47;
 
@@ -768,7 +814,7 @@ pub fn valid_values(n: &mut Numbers, version: i64) -> [i64; 48] {
 }
 
 /// Breaks a rule at its edge, or comes to an edge where it is kept yet.
-fn break_rule(n: &mut Numbers, values: &mut [i64; 48]) {
+pub fn break_rule(n: &mut Numbers, values: &mut [i64; 48]) {
     match n.below(7) {
         0 => values[WEIGHT] = n.pick(&[0, 1001, 1, 1000, 65_535, 256 * 400]).min(65_535),
         1 => values[WIDTH] = n.pick(&[0, 10, 1, 9, 256, 257, 65_535]),
@@ -807,7 +853,7 @@ pub fn encoded(values: &[i64; 48]) -> Vec<u8> {
     bytes
 }
 
-fn os2(n: &mut Numbers) -> Vec<u8> {
+pub fn os2(n: &mut Numbers) -> Vec<u8> {
     let version = match n.below(20) {
         0..=14 => n.below(6) as u16,
         15..=17 => n.pick(&[6, 7, 65_535]),

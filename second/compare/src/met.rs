@@ -1,5 +1,5 @@
-//! What comparisons of two tables, questions on 'name' tables and the writer of 'name' tables have met. A long run at random
-//! has to meet every one of these things. Those of the writer are in a file of their own.
+//! What comparisons of two tables, questions on 'name' tables, the writer of 'name' tables and the chooser have met. A long run
+//! at random has to meet every one of these things. Those of the writer and those of the chooser are in files of their own.
 
 use std::collections::BTreeMap;
 use std::fmt;
@@ -8,6 +8,7 @@ use second::os2::Answer;
 use second::{compare, name, os2};
 
 use crate::ask::word;
+use crate::choose_met;
 use crate::faults::{self, Front, Place, Record, Refused};
 use crate::pair::{Of, Pair, LEVELS_ABOVE};
 use crate::question::{Function, Question, Words};
@@ -344,6 +345,8 @@ pub enum Thing {
     NoNumber(u16, Used),
     /// The writer of 'name' tables met this.
     Write(write_met::Thing),
+    /// The chooser met this.
+    Choose(choose_met::Thing),
 }
 
 /// The word for a side.
@@ -524,6 +527,7 @@ impl fmt::Display for Thing {
                 )
             }
             Thing::Write(thing) => thing.fmt(f),
+            Thing::Choose(thing) => thing.fmt(f),
         }
     }
 }
@@ -603,6 +607,7 @@ pub fn all() -> Vec<Thing> {
     of_records(&mut things);
     of_answers(&mut things);
     things.extend(write_met::all().into_iter().map(Thing::Write));
+    things.extend(choose_met::all().into_iter().map(Thing::Choose));
     things
 }
 

@@ -23,7 +23,7 @@ pub enum Question {
     OpticalSizes(u32),
 }
 
-/// Which of the seventeen functions a call is of.
+/// Which of the twenty-one functions a call is of.
 #[derive(Clone, Copy, Debug, PartialEq, Eq, PartialOrd, Ord)]
 pub enum Function {
     NameCheck,
@@ -43,10 +43,14 @@ pub enum Function {
     NameWrite,
     Os2Compare,
     NameCompare,
+    RackEmpty,
+    RackLoad,
+    RackUnload,
+    RackRequest,
 }
 
 /// The functions in the order of the header.
-pub const FUNCTIONS: [Function; 17] = [
+pub const FUNCTIONS: [Function; 21] = [
     Function::NameCheck,
     Function::Lookup,
     Function::PostScript,
@@ -64,6 +68,10 @@ pub const FUNCTIONS: [Function; 17] = [
     Function::NameWrite,
     Function::Os2Compare,
     Function::NameCompare,
+    Function::RackEmpty,
+    Function::RackLoad,
+    Function::RackUnload,
+    Function::RackRequest,
 ];
 
 impl Function {
@@ -87,13 +95,21 @@ impl Function {
             Function::NameWrite => "name write",
             Function::Os2Compare => "OS/2 compare",
             Function::NameCompare => "name compare",
+            Function::RackEmpty => "empty rack",
+            Function::RackLoad => "load",
+            Function::RackUnload => "unload",
+            Function::RackRequest => "request",
         }
     }
 
     /// The names of the words after the refusal's three.
     pub fn members(self) -> &'static [&'static str] {
         match self {
-            Function::NameCheck | Function::Os2Check => &[],
+            Function::NameCheck
+            | Function::Os2Check
+            | Function::RackEmpty
+            | Function::RackLoad
+            | Function::RackUnload => &[],
             Function::Lookup | Function::PostScript => &["start", "length", "record"],
             Function::Version => &["major", "minor", "record"],
             Function::Field
@@ -105,6 +121,7 @@ impl Function {
             Function::OpticalSizes => &["kind", "sizes", "lower bits", "upper bits"],
             Function::Write | Function::Rewrite | Function::NameWrite => &["size"],
             Function::Os2Compare | Function::NameCompare => &["side", "rows"],
+            Function::RackRequest => &["slot"],
         }
     }
 
@@ -126,6 +143,12 @@ impl Function {
             Function::NameWrite => &[17, 18, 19, 30, 31, 32, 33],
             Function::Os2Compare => &[1, 2, 3, 29],
             Function::NameCompare => &[10, 11, 12, 13, 14, 15, 16, 17, 18, 19, 27, 29],
+            Function::RackEmpty => &[],
+            Function::RackLoad => &[
+                1, 2, 3, 10, 11, 12, 13, 14, 15, 16, 17, 18, 19, 20, 27, 51, 52, 53, 54,
+            ],
+            Function::RackUnload => &[54, 55],
+            Function::RackRequest => &[50],
         }
     }
 

@@ -72,6 +72,42 @@ struct Compared {
     rows: usize,
 }
 
+/// A slot of a rack.
+#[repr(C)]
+#[derive(Clone, Copy, Debug, PartialEq, Eq)]
+pub struct Slot {
+    pub weight: u16,
+    pub width: u16,
+    pub sloped: u16,
+    pub length: u16,
+    pub family: [u8; FAMILY_BYTES],
+}
+
+/// A rack, which is passed and returned by value.
+#[repr(C)]
+#[derive(Clone, Copy, Debug, PartialEq, Eq)]
+pub struct Rack {
+    pub slots: [Slot; SLOTS],
+}
+
+/// How many slots a rack has, and how many bytes of a family a slot has room for.
+pub const SLOTS: usize = 32;
+pub const FAMILY_BYTES: usize = 64;
+// A slot's bytes are those of its members.
+const _: () = assert!(size_of::<Slot>() == 72 && size_of::<Rack>() == SLOTS * 72);
+
+#[repr(C)]
+struct Loaded {
+    refusal: Refusal,
+    rack: Rack,
+}
+
+#[repr(C)]
+struct Chosen {
+    refusal: Refusal,
+    slot: u32,
+}
+
 /// An entry to write. The bytes that stand behind its last member, and that mean nothing, can be filled here.
 #[repr(C)]
 #[derive(Clone, Copy, PartialEq)]
@@ -129,6 +165,25 @@ extern "C" {
         room: *mut u16,
         numbers: usize,
     ) -> Compared;
+    fn gv_rack_empty() -> Rack;
+    fn gv_rack_load(
+        rack: Rack,
+        slot: u32,
+        level: u32,
+        os2: *const u8,
+        os2_length: usize,
+        name: *const u8,
+        name_length: usize,
+    ) -> Loaded;
+    fn gv_rack_unload(rack: Rack, slot: u32) -> Loaded;
+    fn gv_rack_request(
+        rack: Rack,
+        family: *const u8,
+        length: usize,
+        weight: u32,
+        width: u32,
+        slope: u32,
+    ) -> Chosen;
 }
 
 /// The words of an answer that has only a refusal.
@@ -283,4 +338,44 @@ pub fn name_compare(left: &[u8], right: &[u8], room: &mut [u16]) -> Words {
             room.len(),
         )
     })
+}
+
+/// The archive's empty rack.
+pub fn rack_empty() -> Rack {
+    // SAFETY: the function takes nothing.
+    unsafe { gv_rack_empty() }
+}
+
+/// The words that the archive answers to a load, and the rack after it.
+pub fn rack_load(rack: &Rack, slot: u32, level: u32, os2: &[u8], name: &[u8]) -> (Words, Rack) {
+    // SAFETY: each table lends `len()` readable bytes; no pointer is null. A rack may hold any numbers and bytes, and any slot
+    // and level may be given.
+    let loaded = unsafe {
+        gv_rack_load(
+            *rack,
+            slot,
+            level,
+            os2.as_ptr(),
+            os2.len(),
+            name.as_ptr(),
+            name.len(),
+        )
+    };
+    (bare(loaded.refusal), loaded.rack)
+}
+
+/// The words that the archive answers to an unload, and the rack after it.
+pub fn rack_unload(rack: &Rack, slot: u32) -> (Words, Rack) {
+    // SAFETY: a rack may hold any numbers and bytes, and any slot may be given.
+    let unloaded = unsafe { gv_rack_unload(*rack, slot) };
+    (bare(unloaded.refusal), unloaded.rack)
+}
+
+/// The words that the archive answers to a request.
+pub fn rack_request(rack: &Rack, family: &[u8], weight: u32, width: u32, slope: u32) -> Words {
+    // SAFETY: the family lends `len()` readable bytes, and its pointer is not null. A rack may hold any numbers and bytes, and
+    // any numbers may be asked for.
+    let chosen =
+        unsafe { gv_rack_request(*rack, family.as_ptr(), family.len(), weight, width, slope) };
+    with(chosen.refusal, [u64::from(chosen.slot), 0, 0, 0])
 }

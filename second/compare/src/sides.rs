@@ -39,6 +39,7 @@ fn float(value: f32) -> u64 {
 /// What the second program answers.
 pub mod by_second {
     use super::*;
+    use second::chooser::Rack;
     use second::compare::{self, Refused, Side};
     use second::os2::{Answer, OpticalSizes, Rights, StylePosition};
     use second::{name, os2, Refusal};
@@ -146,6 +147,23 @@ pub mod by_second {
     /// The words that the second program's comparison of two 'name' tables makes.
     pub fn name_compare(left: &[u8], right: &[u8], room: &mut [u16]) -> Words {
         compared(compare::name(left, right, room).map_err(with_side))
+    }
+
+    /// The words that the second program's load makes.
+    pub fn rack_load(rack: &mut Rack, slot: u32, level: u32, os2: &[u8], name: &[u8]) -> Words {
+        of(rack.load(slot, level, os2, name), |()| [0; 4])
+    }
+
+    /// The words that the second program's unload makes.
+    pub fn rack_unload(rack: &mut Rack, slot: u32) -> Words {
+        of(rack.unload(slot), |()| [0; 4])
+    }
+
+    /// The words that the second program's request makes. A slope of 0 is upright, any other sloped.
+    pub fn rack_request(rack: &Rack, family: &[u8], weight: u32, width: u32, slope: u32) -> Words {
+        of(rack.request(family, weight, width, slope != 0), |slot| {
+            [u64::from(slot), 0, 0, 0]
+        })
     }
 }
 

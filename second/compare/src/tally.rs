@@ -2,12 +2,14 @@
 
 use std::fmt::Write;
 
+use crate::choose_met;
+use crate::chosen::Step;
 use crate::met::{self, Edge, Met, Thing, FOUND_NUMBERS, SPOTS, USED};
 use crate::question::{Function, Words, FUNCTIONS};
 use crate::write_met::{self, Kind, Rewriting};
 
 /// One more than the highest refusal number.
-const NUMBERS: usize = 34;
+const NUMBERS: usize = 56;
 /// The bits of the nine width percents.
 const WIDTHS: [f32; 9] = [50.0, 62.5, 75.0, 87.5, 100.0, 112.5, 125.0, 150.0, 200.0];
 /// The settings of fsType bits 1 to 3 with two or three of them.
@@ -45,7 +47,7 @@ impl Default for Row {
 /// The counts of a run or of a part of it.
 #[derive(Clone, Default)]
 pub struct Tally {
-    rows: [Row; 17],
+    rows: [Row; 21],
     /// By the rule that refusal 3 carries.
     rules: [u64; 8],
     /// By the field that refusal 8 carries.
@@ -66,9 +68,11 @@ pub struct Tally {
     pub lists: [u64; 2],
     /// Tables whose records were given as entries, and those written.
     pub rewritings: [u64; 2],
+    /// Sequences of calls of the chooser, faces loaded, and faces chosen.
+    pub sequences: [u64; 3],
     /// Pairs of 'name' tables, and pairs of 'OS/2' tables at a level.
     pub pairs: [u64; 2],
-    /// What the comparisons of two tables, the questions on 'name' tables and the writer of 'name' tables met.
+    /// What the comparisons of two tables, the questions on 'name' tables, the writer of 'name' tables and the chooser met.
     pub met: Met,
 }
 
@@ -185,6 +189,7 @@ impl Tally {
         each(&mut self.writes, &other.writes);
         each(&mut self.lists, &other.lists);
         each(&mut self.rewritings, &other.rewritings);
+        each(&mut self.sequences, &other.sequences);
         each(&mut self.pairs, &other.pairs);
         self.met.add_all(&other.met);
     }
@@ -197,7 +202,7 @@ impl Tally {
     /// One line on the tables.
     pub fn tables(&self) -> String {
         format!(
-            "{} name tables ({} accepted, the records of {} given as entries, {} of them written), {} OS/2 tables ({} accepted at level 5, {} at some level), {} sets of 48 numbers ({} written), {} lists of entries ({} written), {} pairs of name tables, {} pairs of OS/2 tables at a level",
+            "{} name tables ({} accepted, the records of {} given as entries, {} of them written), {} OS/2 tables ({} accepted at level 5, {} at some level), {} sets of 48 numbers ({} written), {} lists of entries ({} written), {} pairs of name tables, {} pairs of OS/2 tables at a level, {} sequences of calls of the chooser ({} faces loaded, {} chosen)",
             self.names[0],
             self.names[1],
             self.rewritings[0],
@@ -210,7 +215,10 @@ impl Tally {
             self.lists[0],
             self.lists[1],
             self.pairs[0],
-            self.pairs[1]
+            self.pairs[1],
+            self.sequences[0],
+            self.sequences[1],
+            self.sequences[2]
         )
     }
 
@@ -377,13 +385,29 @@ impl Tally {
             records(Rewriting::TooFar),
             records(Rewriting::NoRoom)
         );
+        let chosen = |thing| self.met.times(Thing::Choose(thing));
+        let decided = |step| chosen(choose_met::Thing::Decided(step));
+        let _ = writeln!(
+            lines,
+            "  faces chosen by: the family alone {}, the slope {}, the width difference {}, the weight difference {}, the lower weight {}, the lower slot {}; of the other slope {}",
+            decided(Step::Family),
+            decided(Step::Slope),
+            decided(Step::Width),
+            decided(Step::Difference),
+            decided(Step::Weight),
+            decided(Step::Slot),
+            [false, true]
+                .map(|sloped| chosen(choose_met::Thing::OtherSlope(sloped)))
+                .iter()
+                .sum::<u64>()
+        );
         let rarest = met::all()
             .into_iter()
             .min_by_key(|&thing| self.met.times(thing));
         if let Some(thing) = rarest {
             let _ = writeln!(
                 lines,
-                "  of {} things of comparisons, of records, of answers and of tables to write that are to be met, the rarest was met {} times: {thing}",
+                "  of {} things of comparisons, of records, of answers, of tables to write and of the chooser that are to be met, the rarest was met {} times: {thing}",
                 met::all().len(),
                 self.met.times(thing)
             );

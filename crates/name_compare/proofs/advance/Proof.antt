@@ -8,7 +8,8 @@ use Rattle.name_layout.specs.Layout.{bytesOf}
 use Rattle.name_layout.proofs.Layouts.{word-lt}
 use Rattle.name.proofs.Acceptances.{accepted-framed, record-inside}
 use Rattle.comparing.specs.Lists.{entryOf}
-use Rattle.name_compare.specs.Differences.{same, inBoth, entryFor, keyNumbered}
+use Rattle.same_bytes.specs.Same.{same}
+use Rattle.name_compare.specs.Differences.{inBoth, entryFor, keyNumbered}
 use Rattle.name_compare.specs.Steps.{keyAt, passed, Stepped}
 use Rattle.name_compare.proofs.KeyNumbers.{key-below}
 use Rattle.name_compare.proofs.Merges.{passes-same, passes-other, left-only, right-only, in-both}

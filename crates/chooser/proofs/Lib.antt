@@ -1,0 +1,5 @@
+pub mod Settling
+pub mod Slots
+pub mod Steps
+pub mod Ranked
+pub mod Numbers

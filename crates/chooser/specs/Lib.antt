@@ -1,0 +1,4 @@
+pub mod Racks
+pub mod Calls
+pub mod Settled
+pub mod Replies

@@ -1,0 +1,5 @@
+pub mod Answers
+pub mod Families
+pub mod Settling
+pub mod Cases
+pub mod Numbers
