@@ -221,7 +221,8 @@ pub extern "C" fn gv_rack_load(
     os2: &[u8],
     name: &[u8],
 ) -> GvLoaded
-    ensures { λ r. ⌜ (r .refusal ≡ outcomeRefusal (loadOf (held rack) slot level (now (os2 .entry)) (now (name .entry)))) × (held (r .rack) ≡ afterLoad (held rack) slot (loadOf (held rack) slot level (now (os2 .entry)) (now (name .entry)))) ⌝ }
+    ensures { λ r. ⌜ (r .refusal ≡ outcomeRefusal (loadOf (held rack) slot level (now (os2 .entry)) (now (name .entry)))) ×
+        (held (r .rack) ≡ afterLoad (held rack) slot (loadOf (held rack) slot level (now (os2 .entry)) (now (name .entry)))) ⌝ }
 {
     let loaded = chooser::load(rack, slot, level, os2, name);
     let answer = loaded.answer;
