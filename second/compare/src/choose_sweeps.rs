@@ -32,16 +32,22 @@ const NO_FACES: Rack = Rack {
 
 /// Makes one call on a rack. Gives the archive's rack after it.
 fn on(asker: &mut Asker, sweep: &str, rack: &Rack, call: &Call) -> Result<Rack, Found> {
-    let mut racks = Racks::of(rack);
+    let mut after = *rack;
     let mut numbers = Numbers::new(asker.tally.calls());
-    caught(|| asker.call(&mut racks, call, &mut numbers).map(|_| ())).map_err(|difference| {
+    caught(|| {
+        let mut racks = Racks::of(rack)?;
+        asker.call(&mut racks, call, &mut numbers)?;
+        after = racks.archive;
+        Ok(())
+    })
+    .map_err(|difference| {
         let calls = Calls {
             rack: Some(Box::new(*rack)),
             calls: vec![call.clone()],
         };
         found(difference, &Made::Calls(calls), sweep)
     })?;
-    Ok(racks.archive)
+    Ok(after)
 }
 
 fn load(slot: u32, level: u32, os2: &Rc<[u8]>, name: &Rc<[u8]>) -> Call {

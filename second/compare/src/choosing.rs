@@ -1,5 +1,8 @@
-//! Makes calls of the chooser on the archive and on the second program, and compares their answers and every slot after them.
+//! Makes calls of the chooser on all sides, and compares their answers and every slot after them.
 
+use std::fmt::Debug;
+
+use gyalvindor::rack;
 use second::chooser;
 
 use crate::ask::{differ, otherwise, own_words, version_and_fs_type, Asker, Difference};
@@ -10,37 +13,94 @@ use crate::met;
 use crate::numbers::Numbers;
 use crate::question::{shown, Function, Words};
 use crate::raw::{self, Rack};
-use crate::sides::by_second;
+use crate::sides::{by_crate, by_second};
+use crate::sweeps::table;
 use crate::Lent;
 
-/// A rack on both sides.
+/// A rack on all sides.
 pub struct Racks {
     pub archive: Rack,
     second: chooser::Rack,
+    /// Nothing where a face is none that a load gives: the crate's rack is filled by loads alone.
+    krate: Option<rack::Rack>,
 }
 
 impl Racks {
-    /// Any struct, and the plain map that the header makes of it: a slot holds a face exactly where its length is 1 to 64.
-    pub fn of(rack: &Rack) -> Racks {
+    /// Any struct, the plain map that the header makes of it, where a slot holds a face exactly where its length is 1 to 64,
+    /// and a rack of the crate with the same faces, if it can have them.
+    pub fn of(rack: &Rack) -> Result<Racks, Difference> {
         let numbered = chosen::faces(rack).map(|(number, face)| (number as u32, owned(&face)));
-        Racks {
+        Ok(Racks {
             archive: *rack,
             second: chooser::Rack {
                 faces: numbered.collect(),
             },
-        }
+            krate: loaded(rack)?,
+        })
     }
 
-    /// A slot of the archive's rack that does not hold what the map does.
-    fn differs(&self) -> Option<usize> {
+    /// A slot in which a side does not hold what the map does, with what both hold there.
+    fn differs(&self) -> Option<String> {
         let faces = &self.second.faces;
-        let one = |number: &usize| {
-            let archive = chosen::face(&self.archive.slots[*number]);
-            let second = faces.get(&(*number as u32)).map(lent);
-            archive != second
-        };
-        (0..raw::SLOTS).find(one)
+        let second = |number: u32| faces.get(&number).map(lent);
+        for (number, slot) in (0..).zip(&self.archive.slots) {
+            if chosen::face(slot) != second(number) {
+                return Some(slot_differs(number, second(number), "archive", slot));
+            }
+        }
+        let krate = self.krate.as_ref()?;
+        // Slots that are not there hold nothing.
+        for number in (0..=rack::SLOTS).chain([u32::MAX]) {
+            let held = krate.face(number).map(told);
+            if held != second(number) {
+                return Some(slot_differs(number, second(number), "crate", &held));
+            }
+        }
+        let listed = krate.faces().map(|(number, face)| (number, told(face)));
+        if !listed.eq(faces.iter().map(|(number, face)| (*number, lent(face)))) {
+            return Some(format!(
+                "the faces that are listed differ\n  second:  {faces:?}\n  crate:   {krate:?}\n"
+            ));
+        }
+        None
     }
+}
+
+fn slot_differs(number: u32, second: Option<Face>, side: &str, held: &dyn Debug) -> String {
+    let side = format!("{side}:");
+    format!("slot {number} differs\n  second:  {second:?}\n  {side:8} {held:?}\n")
+}
+
+/// The crate's rack with the faces of a struct; nothing where one of them is none that a load gives.
+fn loaded(rack: &Rack) -> Result<Option<rack::Rack>, Difference> {
+    let gives = |face: Face| (1..=1000).contains(&face.weight) && (1..=9).contains(&face.width);
+    if !chosen::faces(rack).all(|(_, face)| gives(face)) {
+        return Ok(None);
+    }
+    let mut krate = rack::Rack::new();
+    for (number, face) in chosen::faces(rack) {
+        let [os2, name] = font(&face);
+        let words = by_crate::rack_load(&mut krate, number as u32, 0, &os2, &name);
+        if words != [0; 7] {
+            return Err(Difference(format!(
+                "load of slot {number} before the call, on the crate: {}\n",
+                shown(Function::RackLoad, words)
+            )));
+        }
+    }
+    Ok(Some(krate))
+}
+
+/// The two tables of a font that a load makes this face of: an 'OS/2' table of version 0, and a 'name' table with one record.
+fn font(face: &Face) -> [Vec<u8>; 2] {
+    let mut os2 = vec![0; chosen::size(0)];
+    let length = face.family.len() as u16;
+    for (at, number) in [(4, face.weight), (6, face.width), (62, face.sloped.into())] {
+        os2[at..at + 2].copy_from_slice(&number.to_be_bytes());
+    }
+    let [platform, encoding, language, id] = chosen::FAMILIES[1].map(|part| part as u16);
+    let words = [0, 1, 18, platform, encoding, language, id, length, 0];
+    [os2, table(&words, face.family)]
 }
 
 fn owned(face: &Face) -> chooser::Face {
@@ -61,18 +121,26 @@ fn lent(face: &chooser::Face) -> Face<'_> {
     }
 }
 
+/// A face as the crate tells it.
+fn told(face: rack::Face<'_>) -> Face<'_> {
+    Face {
+        family: face.family,
+        weight: face.weight,
+        width: face.width,
+        sloped: face.sloped,
+    }
+}
+
 impl Asker {
-    /// The archive's empty rack and an empty map.
+    /// The empty rack of each side.
     pub fn empty_rack(&mut self) -> Result<Racks, Difference> {
         let racks = Racks {
             archive: raw::rack_empty(),
             second: chooser::Rack::new(),
+            krate: Some(rack::Rack::new()),
         };
-        if let Some(number) = racks.differs() {
-            return Err(Difference(format!(
-                "empty rack: slot {number} is not empty: {:?}\n",
-                racks.archive.slots[number]
-            )));
+        if let Some(said) = racks.differs() {
+            return Err(Difference(format!("empty rack: {said}")));
         }
         self.counted(&"empty rack", Function::RackEmpty, [0; 7], [0; 2])?;
         Ok(racks)
@@ -82,7 +150,7 @@ impl Asker {
     pub fn calls(&mut self, calls: &Calls, n: &mut Numbers) -> Result<(), Difference> {
         self.tally.sequences[0] += 1;
         let mut racks = match &calls.rack {
-            Some(rack) => Racks::of(rack),
+            Some(rack) => Racks::of(rack)?,
             None => self.empty_rack()?,
         };
         for (number, call) in calls.calls.iter().enumerate() {
@@ -92,7 +160,7 @@ impl Asker {
         Ok(())
     }
 
-    /// Makes one call, and gives the words that both sides answer. The racks are then those after it.
+    /// Makes one call, and gives the words that all sides answer. The racks are then those after it.
     pub fn call(
         &mut self,
         racks: &mut Racks,
@@ -100,6 +168,7 @@ impl Asker {
         n: &mut Numbers,
     ) -> Result<Words, Difference> {
         let before = racks.archive;
+        let crate_before = racks.krate.clone();
         let (words, changed) = match call {
             Call::Load {
                 slot,
@@ -139,12 +208,14 @@ impl Asker {
                 )));
             }
         }
-        if let Some(number) = racks.differs() {
+        if words[0] != 0 && racks.krate != crate_before {
             return Err(Difference(format!(
-                "{call}: slot {number} differs\n  second:  {:?}\n  archive: {:?}\n",
-                racks.second.faces.get(&(number as u32)),
-                racks.archive.slots[number]
+                "{call}: the crate's rack changes, and the answer is: {}\n",
+                shown(Function::RackLoad, words)
             )));
+        }
+        if let Some(said) = racks.differs() {
+            return Err(Difference(format!("{call}: {said}")));
         }
         Ok(words)
     }
@@ -167,6 +238,9 @@ impl Asker {
             return Err(differ(call, function, second, "archive", archive));
         }
         racks.archive = after;
+        self.of_crate(racks, call, function, second, |krate| {
+            by_crate::rack_load(krate, slot, level, os2, name)
+        })?;
         for (lent, table) in around.iter().zip(tables) {
             unchanged(call, lent, table)?;
         }
@@ -204,6 +278,9 @@ impl Asker {
             return Err(differ(call, function, second, "archive", archive));
         }
         racks.archive = after;
+        self.of_crate(racks, call, function, second, |krate| {
+            by_crate::rack_unload(krate, slot)
+        })?;
 
         let read = match before.slots.get(slot as usize) {
             None => own_words((54, None)),
@@ -219,7 +296,7 @@ impl Asker {
 
     fn request(
         &mut self,
-        racks: &Racks,
+        racks: &mut Racks,
         call: &Call,
         wanted: &Wanted,
     ) -> Result<Words, Difference> {
@@ -235,6 +312,9 @@ impl Asker {
         if archive != second {
             return Err(differ(call, function, second, "archive", archive));
         }
+        self.of_crate(racks, call, function, second, |krate| {
+            by_crate::rack_request(krate, family, weight, width, slope)
+        })?;
 
         let read = match chosen::choice(&racks.archive, wanted) {
             Some(choice) => [0, 0, 0, choice.slot as u64, 0, 0, 0],
@@ -248,6 +328,26 @@ impl Asker {
             self.met_choosing(thing)
         });
         self.counted(call, function, second, [0; 2])
+    }
+
+    /// Makes the call on the crate's rack, if there is one. Its words have to be those of the second program.
+    fn of_crate(
+        &mut self,
+        racks: &mut Racks,
+        call: &Call,
+        function: Function,
+        second: Words,
+        asked: impl FnOnce(&mut rack::Rack) -> Words,
+    ) -> Result<(), Difference> {
+        let Some(krate) = &mut racks.krate else {
+            return Ok(());
+        };
+        let words = asked(krate);
+        if words != second {
+            return Err(differ(call, function, second, "crate", words));
+        }
+        self.tally.count_crate(function, words);
+        Ok(())
     }
 
     fn met_choosing(&mut self, thing: Thing) {

@@ -171,6 +171,7 @@ pub mod by_second {
 pub mod by_crate {
     use super::*;
     use gyalvindor::os2::{OpticalSizes, Rights, StylePosition};
+    use gyalvindor::rack::Rack;
     use gyalvindor::{name, os2, Answer, CompareRefusal, Refusal, Side};
 
     fn of<T>(result: Result<T, Refusal>, members: impl FnOnce(T) -> [u64; 4]) -> Words {
@@ -295,6 +296,23 @@ pub mod by_crate {
             given.len()
         });
         compared(result.map_err(with_side))
+    }
+
+    /// The words that the crate's load makes.
+    pub fn rack_load(rack: &mut Rack, slot: u32, level: u32, os2: &[u8], name: &[u8]) -> Words {
+        of(rack.load(slot, level, os2, name), |()| [0; 4])
+    }
+
+    /// The words that the crate's unload makes.
+    pub fn rack_unload(rack: &mut Rack, slot: u32) -> Words {
+        of(rack.unload(slot), |()| [0; 4])
+    }
+
+    /// The words that the crate's request makes. A slope of 0 is upright, any other sloped.
+    pub fn rack_request(rack: &Rack, family: &[u8], weight: u32, width: u32, slope: u32) -> Words {
+        of(rack.request(family, weight, width, slope != 0), |slot| {
+            [u64::from(slot), 0, 0, 0]
+        })
     }
 
     /// The five numbers of a row for two OS/2 tables, as far as the crate tells them.

@@ -14,6 +14,12 @@ const NUMBERS: usize = 56;
 const WIDTHS: [f32; 9] = [50.0, 62.5, 75.0, 87.5, 100.0, 112.5, 125.0, 150.0, 200.0];
 /// The settings of fsType bits 1 to 3 with two or three of them.
 const TOGETHER: [i64; 4] = [6, 10, 12, 14];
+/// The calls on a rack. The crate is asked them where it can have the rack; all else is asked of it always.
+const ON_RACKS: [Function; 3] = [
+    Function::RackLoad,
+    Function::RackUnload,
+    Function::RackRequest,
+];
 
 /// The counts of one function.
 #[derive(Clone, Copy)]
@@ -21,6 +27,8 @@ struct Row {
     calls: u64,
     /// By refusal number; 0 is no refusal.
     numbers: [u64; NUMBERS],
+    /// As these, of calls on a rack that the crate was asked.
+    crate_numbers: [u64; NUMBERS],
     /// By kind: 1 a value, 2 absent, 3 not known.
     kinds: [u64; 4],
     /// Bits that are clear and set.
@@ -36,6 +44,7 @@ impl Default for Row {
         Row {
             calls: 0,
             numbers: [0; NUMBERS],
+            crate_numbers: [0; NUMBERS],
             kinds: [0; 4],
             bits: [0; 2],
             rule_4: [0; 6],
@@ -163,6 +172,11 @@ impl Tally {
         Ok(())
     }
 
+    /// Counts one call on a rack that the crate answered with these words.
+    pub fn count_crate(&mut self, function: Function, words: Words) {
+        self.rows[function as usize].crate_numbers[words[0] as usize] += 1;
+    }
+
     /// Adds the counts of another tally.
     pub fn add(&mut self, other: &Tally) {
         fn each(ours: &mut [u64], theirs: &[u64]) {
@@ -173,6 +187,7 @@ impl Tally {
         for (our, their) in self.rows.iter_mut().zip(&other.rows) {
             our.calls += their.calls;
             each(&mut our.numbers, &their.numbers);
+            each(&mut our.crate_numbers, &their.crate_numbers);
             each(&mut our.kinds, &their.kinds);
             each(&mut our.bits, &their.bits);
             each(&mut our.rule_4, &their.rule_4);
@@ -239,6 +254,11 @@ impl Tally {
                 if function.kinds().contains(&kind) {
                     let _ = write!(lines, ", {word} {}", row.kinds[kind as usize]);
                 }
+            }
+            if ON_RACKS.contains(&function) {
+                let asked: u64 = row.crate_numbers.iter().sum();
+                let answered = row.crate_numbers[0];
+                let _ = write!(lines, "; on the crate {asked} calls, {answered} answered");
             }
             lines.push('\n');
             for (number, count) in row.numbers.iter().enumerate().skip(1) {
@@ -432,6 +452,18 @@ impl Tally {
                     row.numbers[number as usize],
                     format!("{title}: refusal {number}"),
                 );
+            }
+            if ON_RACKS.contains(&function) {
+                need(
+                    row.crate_numbers[0],
+                    format!("{title}: an answer of the crate"),
+                );
+                for &number in function.refusals() {
+                    need(
+                        row.crate_numbers[number as usize],
+                        format!("{title}: refusal {number} of the crate"),
+                    );
+                }
             }
             for &kind in function.kinds() {
                 let word = ["", "a value", "absent", "not known"][kind as usize];
