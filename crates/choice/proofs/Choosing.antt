@@ -1,6 +1,6 @@
 -- What a request is answered is what document 02, Ask 7, settles, and nothing else is: going through the slots keeps the face that no other comes before.
 -- Assumes nothing.
-use Prim.Native.Nat.{ℕ, zero, suc, _<_, _≤_}
+use Prim.Native.Nat.{ℕ, zero, suc, _<_}
 use mathlib.Core.Path.{_≡_, refl, sym, ap, _∙_}
 use mathlib.Core.Logic.{_⊎_, inl, inr, ⊎-elim}
 use mathlib.Core.Bool.{Bool, true, false, cond}
@@ -10,13 +10,13 @@ use native.Mathlib.Decide.{decLt}
 use native.Mathlib.Omega.{arith}
 use lib.ListN.{getD}
 use Rattle.outcomes.specs.Outcomes.{bare, Outcome, answered, foundOr}
-use Rattle.outcomes.proofs.Laws.{found, not-found}
+use Rattle.outcomes.proofs.Laws.{found}
 use Rattle.same_bytes.specs.Same.{same}
 use Rattle.same_bytes.proofs.Strings.{same-exactly}
 use Rattle.choice.specs.declared.Want.{Want}
 use Rattle.choice.specs.Faces.{Face, Slots}
 use Rattle.choice.specs.Ranks.{Placed, numbersOf, before, ofFamily, earlier, best, requestOf}
-use Rattle.choice.specs.Settled.{Before, Loaded, Chosen, RequestSettled, no-face, is-chosen, RequestsSettled, DependsOnFaces}
+use Rattle.choice.specs.Settled.{Loaded, Chosen, RequestSettled, no-face, is-chosen, RequestsSettled, DependsOnFaces}
 use Rattle.choice.proofs.Orders.{below-trans, below-itself, below-either}
 use Rattle.choice.proofs.Exactly.{before-exactly}
 

@@ -1,17 +1,15 @@
 -- Each test is matched with its proposition: the difference of two numbers, the slope, and that one face comes before another.
 -- Assumes nothing.
-use Prim.Native.Nat.{ℕ, _+_, _<_}
-use mathlib.Core.Path.{_≡_, refl, sym, ap, _∙_}
+use Prim.Native.Nat.{ℕ, _<_}
+use mathlib.Core.Path.{_≡_, refl, sym, _∙_}
 use mathlib.Core.Logic.{_⊎_, inl, inr, ⊎-elim, _↔_, Iff·trans}
 use mathlib.Core.Bool.{Bool, true, false}
-use mathlib.Core.List.{List, [], _∷_}
 use native.Mathlib.Decide.{decLt}
 use native.Mathlib.Omega.{arith}
 use borrow.Author.Tests.{lt-ltb, le-ltb}
 use Rattle.outcomes.proofs.Tests as tests
 use Rattle.choice.specs.declared.Want.{Want}
-use Rattle.choice.specs.Faces.{Face}
-use Rattle.choice.specs.Ranks.{Placed, differ, gap, numbersOf, below, before}
+use Rattle.choice.specs.Ranks.{Placed, differ, gap, numbersOf, before}
 use Rattle.choice.specs.Settled.{Difference, Nearer, AsNear, Before, matching-slope, nearer-width, nearer-weight, lower-weight, lower-slot}
 use Rattle.choice.proofs.Orders.{Below, below-lists}
 

@@ -10,10 +10,10 @@ use native.Mathlib.Decide.{decLt}
 use native.Mathlib.Omega.{arith}
 use borrow.Author.Tests.{lt-ltb, le-ltb}
 use lib.Dec.{ltb}
-use Rattle.outcomes.specs.Outcomes.{bare, Outcome, refused, answered, foundOr}
+use Rattle.outcomes.specs.Outcomes.{bare, refused, answered, foundOr}
 use Rattle.outcomes.proofs.Tests as tests
 use Rattle.choice.specs.declared.Want.{Want}
-use Rattle.choice.specs.Faces.{Face, Slots}
+use Rattle.choice.specs.Faces.{Slots}
 use Rattle.choice.specs.Ranks.{Placed, differ, gap, numbersOf, before, earlier, best, requestOf, within16, rank, noRank, Small, rankOf, Stands, lower}
 use Rattle.choice.proofs.Orders.{Lexical, Below}
 use Rattle.choice.proofs.Exactly.{numbers-below}

@@ -51,3 +51,20 @@ abbrev pub Slots32 : (Slots → List ℕ → Want → Outcome ℕ) → Type 0
 Slots32 request =
     map (λ slots. ask request slots (65 ∷ []) 400 5 false) ((replicate 31 none ++ holding (65 ∷ []) 400 5 false ∷ []) ∷ (replicate 32 none ++ holding (65 ∷ []) 400 5 false ∷ []) ∷ [] ∷ [])
     ≡ answered 31 ∷ refused 50 none ∷ refused 50 none ∷ []
+
+-- the lower weight, though its slot is higher; widths 4 and 6 are equally near 5, on either side, so that the weight decides; and weights of a rack that no load has made
+abbrev pub Ties : (Slots → List ℕ → Want → Outcome ℕ) → Type 0
+Ties request =
+    (ask request (holding (65 ∷ []) 500 5 false ∷ holding (65 ∷ []) 300 5 false ∷ []) (65 ∷ []) 400 5 false
+    ∷ ask request (holding (65 ∷ []) 700 6 false ∷ holding (65 ∷ []) 400 4 false ∷ []) (65 ∷ []) 400 5 false
+    ∷ ask request (holding (65 ∷ []) 700 4 false ∷ holding (65 ∷ []) 400 6 false ∷ []) (65 ∷ []) 400 5 false
+    ∷ ask request (holding (65 ∷ []) 1 5 false ∷ holding (65 ∷ []) 65535 5 false ∷ []) (65 ∷ []) 40000 5 false ∷ [])
+    ≡ answered 1 ∷ answered 1 ∷ answered 1 ∷ answered 1 ∷ []
+
+-- "exactly that family": families of 64 bytes that differ in the last alone, one byte less and one more; zero bytes; and another case
+abbrev pub Exact : (Slots → List ℕ → Want → Outcome ℕ) → Type 0
+Exact request =
+    map (λ family. ask request
+    (holding (replicate 63 65 ++ 66 ∷ []) 400 5 false ∷ holding (replicate 64 65) 400 5 false ∷ holding (0 ∷ 65 ∷ 0 ∷ 66 ∷ []) 400 5 false ∷ []) family 400 5 false)
+    (replicate 64 65 ∷ replicate 63 65 ∷ replicate 65 65 ∷ (0 ∷ 65 ∷ 0 ∷ 66 ∷ []) ∷ (0 ∷ 65 ∷ []) ∷ (65 ∷ 66 ∷ []) ∷ (0 ∷ 97 ∷ 0 ∷ 98 ∷ []) ∷ [])
+    ≡ answered 1 ∷ refused 50 none ∷ refused 50 none ∷ answered 2 ∷ refused 50 none ∷ refused 50 none ∷ refused 50 none ∷ []

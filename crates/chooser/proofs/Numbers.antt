@@ -17,7 +17,8 @@ use Rattle.chooser.specs.declared.Refusal.{Refusal}
 use Rattle.chooser.specs.declared.Refusal.the-variants.{LevelAbove, NoSlot, Taken, Font, Empty, NoFace}
 use Rattle.chooser.specs.declared.Change.the-variants as Change·
 use Rattle.chooser.specs.declared.Choice.the-variants as Choice·
-use Rattle.chooser.specs.Racks.{slotOf}
+use Rattle.chooser.specs.Racks.{slotOf, held}
+use Rattle.chooser.specs.Calls.{nobody}
 use Rattle.chooser.specs.Replies.{saidRefusal, saidChange, saidChoice}
 
 abbrev refusals : List Refusal
@@ -43,7 +44,18 @@ slot sloped length = record { weight = 400; width = 5; sloped = sloped; length =
 abbrev face : Bool → List ℕ → Option Face
 face sloped family = some (record { family = family; weight = 400; width = 5; sloped = sloped })
 
-pub slots-hold : map slotOf (slot 0 0 ∷ slot 0 1 ∷ slot 1 2 ∷ slot 7 2 ∷ slot 65535 3 ∷ slot 0 64 ∷ slot 0 65 ∷ slot 0 65535 ∷ [])
-    ≡ none ∷ face false (70 ∷ []) ∷ face true (70 ∷ 71 ∷ []) ∷ face true (70 ∷ 71 ∷ []) ∷ face true (70 ∷ 71 ∷ 72 ∷ []) ∷ face false (70 ∷ 71 ∷ replicate 62 72) ∷ none ∷ none ∷ []
+pub slots-hold : map slotOf (slot 0 0 ∷ slot 0 1 ∷ slot 1 2 ∷ slot 7 2 ∷ slot 65535 3 ∷ slot 0 64 ∷ slot 0 65 ∷ slot 0 65535 ∷ slot 2 1 ∷ slot 256 1 ∷ slot 32768 1 ∷ slot 0 256 ∷ slot 0 257 ∷ slot 0 320 ∷ [])
+    ≡ none ∷ face false (70 ∷ []) ∷ face true (70 ∷ 71 ∷ []) ∷ face true (70 ∷ 71 ∷ []) ∷ face true (70 ∷ 71 ∷ 72 ∷ []) ∷ face false (70 ∷ 71 ∷ replicate 62 72) ∷ none ∷ none ∷ face true (70 ∷ []) ∷ face true (70 ∷ []) ∷ face true (70 ∷ []) ∷ none ∷ none ∷ none ∷ []
 unfolding slotOf unfit
 slots-hold = refl
+
+-- slot i is the i-th of the rack, and past the last there is none
+pub racks-hold : map (held (record { slots = slot 0 1 ∷ slot 0 0 ∷ slot 1 2 ∷ (replicate 28 (slot 0 0) ++ slot 0 2 ∷ []) })) (0 ∷ 1 ∷ 2 ∷ 3 ∷ 30 ∷ 31 ∷ 32 ∷ [])
+    ≡ face false (70 ∷ []) ∷ none ∷ face true (70 ∷ 71 ∷ []) ∷ none ∷ none ∷ face false (70 ∷ 71 ∷ []) ∷ none ∷ []
+unfolding held slotOf unfit
+racks-hold = refl
+
+-- a rack of empty slots: none holds a face
+pub nobody-holds : (i : ℕ) → nobody i ≡ none
+unfolding nobody
+nobody-holds i = refl

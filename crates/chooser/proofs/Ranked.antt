@@ -1,17 +1,16 @@
 -- The rank of what a slot holds.
 -- Assumes nothing.
-use Prim.Native.Nat.{ℕ, suc, _+_, _<_, _≤_}
-use mathlib.Core.Path.{_≡_, refl, sym, ap, _∙_, subst}
+use Prim.Native.Nat.{ℕ, _+_, _<_}
+use mathlib.Core.Path.{_≡_, refl}
 use mathlib.Core.Bool.{true, false, not}
-use mathlib.Core.Option.{Option, none, some}
 use mathlib.Core.List.{List}
 use native.Mathlib.Numerals.{add-one}
 use lib.Dec.{eqb}
 use lib.ListN.{take}
 use Rattle.same_bytes.specs.Same.{same}
 use Rattle.choice.specs.declared.Want.{Want}
-use Rattle.choice.specs.Faces.{Face, Slots}
-use Rattle.choice.specs.Ranks.{ofFamily, earlier, best, rank, noRank, Stands, lower}
+use Rattle.choice.specs.Faces.{Slots}
+use Rattle.choice.specs.Ranks.{ofFamily, best, rank, noRank, Stands, lower}
 use Rattle.choice.proofs.Ranking.{stands-lower}
 use Rattle.face.specs.Reading.{unfit}
 use Rattle.chooser.specs.declared.Slot.{Slot}

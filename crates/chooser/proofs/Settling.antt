@@ -1,29 +1,25 @@
 -- What a load and an unload answer, and the map after them, is what document 02, Ask 7, settles, and nothing else is.
 -- Assumes nothing.
 use Prim.Native.Nat.{ℕ, _<_, _≤_}
-use mathlib.Core.Path.{_≡_, refl, sym, ap, _∙_, subst}
+use mathlib.Core.Path.{_≡_, refl, sym, _∙_}
 use mathlib.Core.Logic.{_↔_}
-use mathlib.Core.Bool.{Bool, true, false, not}
+use mathlib.Core.Bool.{true, false}
 use mathlib.Core.Option.{Option, none, some}
 use mathlib.Core.List.{List}
 use native.Mathlib.Decide.{ℕ-discrete, decLt}
 use native.Mathlib.Omega.{arith}
 use borrow.Author.Tests.{lt-ltb, le-ltb, eq-eqb, ne-eqb}
-use lib.Dec.{eqb}
 use Rattle.bigendian.specs.Numbers.{Bytes}
 use Rattle.outcomes.specs.Firsts.{when, _then_}
 use Rattle.outcomes.specs.Outcomes.{Outcome, refused, answered, accepted, unless}
 use Rattle.outcomes.proofs.Tests as tests
 use Rattle.choice.specs.Faces.{Face, Slots}
-use Rattle.choice.specs.Ranks.{requestOf}
-use Rattle.choice.proofs.Choosing.{depends-on-faces}
 use Rattle.level.specs.Levels.{newest}
 use Rattle.face.specs.Reading.{faceIn}
-use Rattle.face.specs.Settled.{FaceSettled}
 use Rattle.face.proofs.Settling.{face-settles, face-settled-is}
 use Rattle.chooser.specs.Calls.{taken, put, noSuchSlot, beforeTables, loadOf, emptying, unloadOf, doneOf, afterLoad, afterUnload}
 use Rattle.chooser.specs.Settled.{LoadSettled, level-above, slot-above, slot-taken, of-tables, UnloadSettled, unload-above, unload-empty, unload-done}
-use Rattle.chooser.specs.Settled.{OwnSlot, Unchanged, Load, load-fills, load-refused, Unload, unload-empties, unload-refused, LoadsSettled, UnloadsSettled}
+use Rattle.chooser.specs.Settled.{OwnSlot, Load, load-fills, load-refused, Unload, unload-empties, unload-refused, LoadsSettled, UnloadsSettled}
 
 -- ---- one slot
 

@@ -1,7 +1,7 @@
 -- The calls as the code makes them: what it finds at the place of a slot is what the map holds there, and what it writes back is the map after the call.
 -- Assumes nothing.
 use Prim.Native.Nat.{ℕ, _<_, _≤_}
-use mathlib.Core.Path.{_≡_, refl, sym, ap, _∙_, subst}
+use mathlib.Core.Path.{_≡_, refl, sym, ap, _∙_}
 use mathlib.Core.Bool.{Bool, true, false, not}
 use mathlib.Core.Option.{Option, none, some}
 use mathlib.Core.List.{List}
@@ -9,17 +9,17 @@ use native.Mathlib.Decide.{decLt}
 use native.Mathlib.Omega.{arith}
 use borrow.Author.Tests.{lt-ltb, le-ltb}
 use lib.Dec.{ltb}
-use lib.ListN.{length, getD, set}
+use lib.ListN.{length, set}
 use Rattle.outcomes.specs.Firsts.{when, _then_}
-use Rattle.outcomes.specs.Outcomes.{Refusal, bare, Outcome, refused, answered, accepted, unless}
+use Rattle.outcomes.specs.Outcomes.{bare, Outcome, refused, answered, accepted, unless}
 use Rattle.outcomes.proofs.Tests as tests
 use Rattle.outcomes.proofs.Laws.{unless-answered, passed}
-use Rattle.choice.specs.Faces.{Face, Slots}
+use Rattle.choice.specs.Faces.{Face}
 use Rattle.level.specs.Levels.{newest}
 use Rattle.face.specs.Reading.{faceIn}
 use Rattle.chooser.specs.declared.Slot.{Slot}
 use Rattle.chooser.specs.declared.Rack.{Rack}
-use Rattle.chooser.specs.Racks.{slotOf, noSlot, held}
+use Rattle.chooser.specs.Racks.{slotOf, held}
 use Rattle.chooser.specs.Calls.{taken, put, noSuchSlot, beforeTables, loadOf, emptying, unloadOf, doneOf, afterLoad, afterUnload, slotAfter, slotLeft}
 use Rattle.chooser.specs.declared.Changed.{Changed}
 use Rattle.chooser.specs.Replies.{saidChange, Filled, Cleared, Place}

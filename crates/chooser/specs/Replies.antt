@@ -6,7 +6,6 @@ use mathlib.Core.List.{List}
 use Rattle.outcomes.specs.Outcomes as outcomes
 use Rattle.outcomes.specs.Outcomes.{bare, Outcome, answered, accepted, refusing}
 use Rattle.choice.specs.Faces.{Face}
-use Rattle.face.specs.declared.FaceAt.{FaceAt}
 use Rattle.face.specs.Replies.{saidFaceRefusal, faceAt, Fits}
 use Rattle.chooser.specs.declared.Refusal.{Refusal}
 use Rattle.chooser.specs.declared.Refusal.the-variants.{LevelAbove, NoSlot, Taken, Font, Empty, NoFace}

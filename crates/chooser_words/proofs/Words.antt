@@ -2,16 +2,15 @@
 -- Assumes nothing.
 use Prim.Native.Nat.{ℕ}
 use mathlib.Core.Path.{_≡_, refl}
-use mathlib.Core.Bool.{Bool, true, false}
+use mathlib.Core.Bool.{true, false}
 use mathlib.Core.Option.{Option, none, some}
 use mathlib.Core.List.{List, [], _∷_, map}
-use Rattle.outcomes.specs.Outcomes.{Refusal, bare, Outcome, refused, answered, unless, foundOr}
-use Rattle.outcomes.proofs.Laws.{Only}
+use Rattle.outcomes.specs.Outcomes.{bare, Outcome, refused, answered, foundOr}
 use Rattle.choice.specs.Faces.{Slots}
 use Rattle.choice.specs.Ranks.{Placed, best, requestOf}
 use Rattle.choice.specs.declared.Want.{Want}
 use Rattle.chooser.specs.Calls.{doneOf}
-use Rattle.refusal_words.specs.Words.{refusalWords, noRefusal, outcomeRefusal}
+use Rattle.refusal_words.specs.Words.{refusalWords, outcomeRefusal}
 use Rattle.refusal_words.proofs.ReadBack.{said}
 use Rattle.chooser_words.specs.declared.GvChosen.{GvChosen}
 use Rattle.chooser_words.specs.Words.{chosenWords, wantOf}
@@ -29,8 +28,8 @@ slot-chosen i = refl
 pub slopes : map (λ k. wantOf 400 5 k .sloped) (0 ∷ 1 ∷ 2 ∷ 65536 ∷ 4294967295 ∷ []) ≡ false ∷ true ∷ true ∷ true ∷ true ∷ []
 slopes = refl
 
-pub wants : wantOf 400 5 0 ≡ record { weight = 400; width = 5; sloped = false }
-wants = refl
+pub wants : (weight width : ℕ) → wantOf weight width 0 ≡ record { weight = weight; width = width; sloped = false }
+wants weight width = refl
 
 -- a load's words are those of its refusal
 pub done-words : {A : Type 0} (o : Outcome A) → outcomeRefusal (doneOf o) ≡ outcomeRefusal o

@@ -15,9 +15,8 @@ use Rattle.os2_fields.specs.Fields.{raw, version}
 use Rattle.os2_fields.proofs.Laws.{value-plain}
 use Rattle.os2_acceptance.specs.Settled.{Accepted}
 use Rattle.os2_acceptance.proofs.Accepting.{judged-exactly, open-word}
-use Rattle.os2_questions.specs.declared.Question.{Question}
 use Rattle.os2_questions.specs.declared.Question.the-variants.{Field, SelectionBit}
-use Rattle.os2_questions.specs.Settled.{CameIn, field-came, selection-came, Later, after, newer}
+use Rattle.os2_questions.specs.Settled.{CameIn, field-came, selection-came, Later, after}
 use Rattle.os2_answers.specs.Values.{integer, Said, value}
 use Rattle.os2_answers.specs.Asking.{ask}
 use Rattle.name_search.specs.declared.Text.{Text}

@@ -1,23 +1,21 @@
 -- What two tables give, case by case, as the code comes to it.
 -- Assumes nothing.
-use Prim.Native.Nat.{ℕ, _+_, _<_, _≤_}
-use mathlib.Core.Path.{_≡_, refl, sym, ap, _∙_}
+use Prim.Native.Nat.{ℕ, _<_, _≤_}
+use mathlib.Core.Path.{_≡_, sym, ap, _∙_}
 use mathlib.Core.Bool.{true, false}
 use mathlib.Core.Option.{Option, none, some}
 use mathlib.Core.List.{List}
 use native.Mathlib.Omega.{arith}
 use lib.Dec.{ltb}
-use lib.ListN.{length}
 use Rattle.bigendian.specs.Numbers.{Bytes}
 use Rattle.outcomes.specs.Firsts.{when, _then_}
-use Rattle.outcomes.specs.Outcomes.{Refusal, bare, Outcome, refused, answered, unless, refusing}
+use Rattle.outcomes.specs.Outcomes.{Refusal, bare, refused, answered, unless, refusing}
 use Rattle.outcomes.proofs.Laws.{unless-answered}
 use Rattle.level.specs.Levels.{newest}
 use Rattle.os2_fields.specs.Fields.{version}
 use Rattle.os2_acceptance.specs.Acceptance.{judged}
 use Rattle.os2_acceptance.specs.Settled.{Accepted}
 use Rattle.os2_acceptance.proofs.Accepting.{judged-exactly}
-use Rattle.os2_questions.specs.declared.Question.{Question}
 use Rattle.os2_questions.specs.declared.Question.the-variants.{Field}
 use Rattle.os2_questions.specs.Questions.{ownRefusal}
 use Rattle.os2_questions.proofs.Settling.{under}
@@ -25,7 +23,7 @@ use Rattle.os2_answers.specs.Values.{Said}
 use Rattle.os2_answers.specs.Asking.{given, ask}
 use Rattle.os2_answers.proofs.Settling.{ask-above, ask-judged}
 use Rattle.name_search.specs.declared.Text.{Text}
-use Rattle.face.specs.Reading.{numberIn, newer, os2Fault, faceOf, familyOf, bytesAt, unfit, named, faceIn}
+use Rattle.face.specs.Reading.{numberIn, newer, os2Fault, faceOf, familyOf, unfit, named, faceIn}
 use Rattle.face.specs.Replies.{faceAt, styleOf, Fits}
 use Rattle.face.proofs.Answers.{figure, version-answer, version-says}
 use Rattle.face.proofs.Settling.{fit-exactly, family-inside}

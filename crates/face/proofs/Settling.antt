@@ -2,15 +2,14 @@
 -- Assumes nothing.
 use Prim.Native.Nat.{ℕ, zero, suc, _+_, _<_, _≤_}
 use mathlib.Core.Path.{_≡_, refl, sym, ap, _∙_, subst}
-use mathlib.Core.Logic.{_⊎_, inl, inr, ⊎-elim, _↔_, Iff·trans}
+use mathlib.Core.Logic.{_⊎_, _↔_, Iff·trans}
 use mathlib.Core.Bool.{Bool, true, false}
 use mathlib.Core.Option.{Option, none, some}
 use mathlib.Core.List.{List}
 use native.Mathlib.Decide.{decLt}
 use native.Mathlib.Omega.{arith}
-use borrow.Author.Tests.{lt-ltb, le-ltb, ne-eqb}
+use borrow.Author.Tests.{ne-eqb}
 use lib.Dec.{ltb, eqb}
-use lib.IntN.{pos}
 use lib.ListN.{length, length-drop}
 use lib.Seq.{length-take-le}
 use Rattle.bigendian.specs.Numbers.{Bytes}
@@ -26,13 +25,11 @@ use Rattle.os2_acceptance.specs.Acceptance.{checked}
 use Rattle.os2_acceptance.specs.Settled.{Accepted, CheckSettled, check-above, check-short, check-broken, check-accepted}
 use Rattle.os2_acceptance.proofs.Accepting.{check-settles}
 use Rattle.os2_questions.specs.declared.Question.the-variants.{Field, SelectionBit}
-use Rattle.os2_questions.specs.Settled.{CameIn}
-use Rattle.os2_answers.specs.Values.{integer}
 use Rattle.os2_answers.specs.Asking.{ask}
-use Rattle.os2_answers.specs.Settled.{Says, level-above, too-short, rule-broken}
+use Rattle.os2_answers.specs.Settled.{level-above, too-short, rule-broken}
 use Rattle.os2_answers.proofs.Settling.{settled-is}
 use Rattle.name_layout.specs.Layout.{bytesOf}
-use Rattle.name_layout.specs.Keys.{Key, keyFrom}
+use Rattle.name_layout.specs.Keys.{Key}
 use Rattle.name.specs.Acceptable.{Acceptable}
 use Rattle.name.specs.Acceptance.{faults}
 use Rattle.name.specs.Refusing.{Refused}
@@ -40,12 +37,12 @@ use Rattle.name.proofs.Acceptances.{not-tables}
 use Rattle.name.proofs.Theorems.{acceptable}
 use Rattle.name.proofs.Refusings.{refused-exactly}
 use Rattle.name_search.specs.declared.Text.{Text}
-use Rattle.name_search.specs.Searches.{HasKey, HasBytes, AtMostOne, recordWith, StringOf, textOf}
-use Rattle.name_search.proofs.Finds.{find-has, find-none, text-is, at-most-one}
+use Rattle.name_search.specs.Searches.{HasKey, HasBytes, recordWith, textOf}
+use Rattle.name_search.proofs.Finds.{find-has, find-none, text-is}
 use Rattle.name_lookup.specs.Answers.{lookupOf}
 use Rattle.name_lookup.proofs.Theorems.{lookup-right, found-exactly-when, missing-exactly-when, gives-its-bytes}
-use Rattle.face.specs.Reading.{numberIn, refusalIn, newer, os2Fault, faceOf, familyKey, orElse, familyOf, bytesAt, unfit, named, faceIn}
-use Rattle.face.specs.Settled.{Known, Lacks, Family, of-16, of-1, Unfit, bitOf, Style, FacesSettled}
+use Rattle.face.specs.Reading.{numberIn, newer, os2Fault, faceOf, familyKey, orElse, familyOf, bytesAt, unfit, named, faceIn}
+use Rattle.face.specs.Settled.{Known, Lacks, Family, of-16, of-1, bitOf, Style, FacesSettled}
 use Rattle.face.specs.Settled.{FaceSettled, os2-refused, newer-table, name-refused, no-family, family-unfit, is-face}
 use Rattle.face.proofs.Answers.{version-came, version-answer, weight-answer, width-answer, slope-answer, version-says, weight-says, width-says, slope-says}
 

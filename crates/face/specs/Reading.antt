@@ -6,7 +6,7 @@ use mathlib.Core.Option.{Option, none, some}
 use mathlib.Core.List.{List}
 use lib.Dec.{ltb, eqb}
 use lib.IntN.{ℤ, pos, negsuc}
-use lib.ListN.{length, take, drop}
+use lib.ListN.{take, drop}
 use Rattle.outcomes.specs.Firsts.{when, _then_}
 use Rattle.outcomes.specs.Outcomes.{Refusal, bare, Outcome, refused, answered, unless}
 use Rattle.choice.specs.Faces.{Face}

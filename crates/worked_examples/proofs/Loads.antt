@@ -22,12 +22,12 @@ use Rattle.name_search.specs.Searches.{recordWith, textOf}
 use Rattle.name_lookup.specs.Answers.{lookupOf}
 use Rattle.face.specs.Reading.{newer, os2Fault, faceOf, orElse, familyOf, unfit, named, faceIn}
 use Rattle.chooser.specs.Calls.{taken, put, noSuchSlot, beforeTables, loadOf, emptying, unloadOf, afterLoad, afterUnload}
-use Rattle.worked_examples.specs.Loads.{Families, Lengths, Styles, Orders, Newer, Unloads, After}
+use Rattle.worked_examples.specs.Loads.{Families, Lengths, Styles, Obliques, TooLong, OtherKeys, Orders, Newer, Versions, Unloads, After}
 
-pub loads : Families × Lengths × Styles × Orders × Newer × Unloads × After
+pub loads : Families × Lengths × Styles × Obliques × TooLong × OtherKeys × Orders × Newer × Versions × Unloads × After
 unfolding number stored when _then_ firstOf unless foundOr tableSize bit bits weightBroken widthBroken typeBroken rightsBroken selectionBroken regularBroken
     sizesBroken broken verdictOf catalogue fieldOf rawIn valueIn valuesOf underTwo underSize short ruling judged ownRefusal since onWhole above unknown caseOf valueOf given
     beforeTable ask tagCount tagsAt bytesOf keyOf same below tooShort otherFormat recordsPass tagsPass misplaced stringPasses startsBeyond runsOver forbidden
     languageRefused belowBefore equalsBefore layoutFault recordFault tagFault faults recordWith textOf lookupOf newer os2Fault faceOf orElse familyOf unfit named faceIn
     taken put noSuchSlot beforeTables loadOf emptying unloadOf afterLoad afterUnload
-loads = (refl, refl, refl, refl, refl, refl, refl)
+loads = (refl, refl, refl, refl, refl, refl, refl, refl, refl, refl, refl)

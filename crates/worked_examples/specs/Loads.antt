@@ -4,7 +4,7 @@ use mathlib.Core.Path.{_≡_}
 use mathlib.Core.Bool.{Bool, true, false, cond}
 use mathlib.Core.Option.{Option, none, some}
 use mathlib.Core.List.{List, [], _∷_, _++_, map}
-use lib.Dec.{eqb}
+use lib.Dec.{eqb, ltb}
 use lib.ListN.{replicate}
 use Rattle.outcomes.specs.Outcomes.{Outcome, refused, answered, accepted}
 use Rattle.choice.specs.Faces.{Face, Slots}
@@ -56,6 +56,32 @@ Styles =
     ≡ face (70 ∷ []) ∷ answered (record { family = 70 ∷ []; weight = 400; width = 5; sloped = false })
     ∷ answered (record { family = 70 ∷ []; weight = 1; width = 9; sloped = true }) ∷ answered (record { family = 70 ∷ []; weight = 1000; width = 1; sloped = false }) ∷ []
 
+-- version 4: bits 7, 8 and 9 (oblique) are no slope
+abbrev pub Obliques : Type 0
+Obliques =
+    map (λ s. faceIn 5 (with 31 s (with 0 4 (first 96))) (two 2 0 1 0)) (0x0200 ∷ 0x03BE ∷ 0x0201 ∷ [])
+    ≡ answered (record { family = 70 ∷ []; weight = 400; width = 5; sloped = false }) ∷ answered (record { family = 70 ∷ []; weight = 400; width = 5; sloped = false })
+    ∷ answered (record { family = 70 ∷ []; weight = 400; width = 5; sloped = true }) ∷ []
+
+-- "A record 16 that is .. too long gives 51; ID 1 is tried only where no record 16 is there."
+abbrev pub TooLong : Type 0
+TooLong =
+    faceIn 5 sloped (words (0 ∷ 2 ∷ 30 ∷ 3 ∷ 1 ∷ 0x409 ∷ 1 ∷ 2 ∷ 0 ∷ 3 ∷ 1 ∷ 0x409 ∷ 16 ∷ 65 ∷ 0 ∷ []) ++ replicate 65 71) ≡ refused 51 none
+
+-- records with a text of two bytes under these keys
+abbrev pub keyed : List (List ℕ) → List ℕ
+keyed [] = []
+keyed (k ∷ ks) = words (k ++ 2 ∷ 0 ∷ []) ++ keyed ks
+
+-- no other key is a family's: platform, encoding, language, name
+abbrev pub OtherKeys : Type 0
+OtherKeys =
+    faceIn 5 sloped
+    (words (0 ∷ 14 ∷ 174 ∷ []) ++ keyed ((0 ∷ 3 ∷ 0 ∷ 1 ∷ []) ∷ (0 ∷ 3 ∷ 0 ∷ 16 ∷ []) ∷ (1 ∷ 0 ∷ 0 ∷ 1 ∷ []) ∷ (1 ∷ 0 ∷ 0 ∷ 16 ∷ []) ∷ (3 ∷ 0 ∷ 0x409 ∷ 1 ∷ []) ∷ (3 ∷ 0 ∷ 0x409 ∷ 16 ∷ [])
+    ∷ (3 ∷ 1 ∷ 0x407 ∷ 1 ∷ []) ∷ (3 ∷ 1 ∷ 0x409 ∷ 0 ∷ []) ∷ (3 ∷ 1 ∷ 0x409 ∷ 4 ∷ []) ∷ (3 ∷ 1 ∷ 0x409 ∷ 21 ∷ []) ∷ (3 ∷ 1 ∷ 0x809 ∷ 1 ∷ []) ∷ (3 ∷ 1 ∷ 0x809 ∷ 16 ∷ [])
+    ∷ (3 ∷ 10 ∷ 0x409 ∷ 1 ∷ []) ∷ (3 ∷ 10 ∷ 0x409 ∷ 16 ∷ []) ∷ []) ++ five)
+    ≡ refused 20 none
+
 -- ---- the order of a load's refusals
 
 -- slot 3 is taken
@@ -85,18 +111,37 @@ Newer =
     map (λ L. load 0 L (with 0 5 (with 2 0 (first 86))) []) (0 ∷ 1 ∷ 2 ∷ 4 ∷ 5 ∷ 6 ∷ [])
     ≡ refused 52 none ∷ refused 52 none ∷ refused 2 none ∷ refused 2 none ∷ refused 2 none ∷ refused 1 none ∷ []
 
+-- a version above all levels is newer than each; one of the level's own version is not
+abbrev pub Versions : Type 0
+Versions =
+    map (λ w. load 0 5 (with 47 1 (with 0 w (first 100))) (two 2 0 3 2)) (5 ∷ 6 ∷ 65535 ∷ [])
+    ≡ answered (record { family = 72 ∷ 73 ∷ 74 ∷ []; weight = 400; width = 5; sloped = false }) ∷ refused 52 none ∷ refused 52 none ∷ []
+
 -- an unload: 54, then 55
 abbrev pub Unloads : Type 0
 Unloads = map (unloadOf slots) (3 ∷ 0 ∷ 31 ∷ 32 ∷ 4294967295 ∷ []) ≡ accepted ∷ refused 55 none ∷ refused 55 none ∷ refused 54 none ∷ refused 54 none ∷ []
 
--- ---- the map after a call: slots 0 to 4
+-- ---- the map after a call: slots 0 to 32, all taken but slot 1
+
+abbrev pub other : ℕ → Option Face
+other i = some (record { family = i ∷ []; weight = 500; width = 4; sloped = false })
+
+abbrev pub full : Slots
+full i = cond (eqb i 1) none (cond (ltb 31 i) none (other i))
 
 abbrev pub shown : Slots → List (Option Face)
-shown m = map m (0 ∷ 1 ∷ 2 ∷ 3 ∷ 4 ∷ [])
+shown m = map m (0 ∷ 1 ∷ 2 ∷ 3 ∷ 4 ∷ 5 ∷ 6 ∷ 7 ∷ 8 ∷ 9 ∷ 10 ∷ 11 ∷ 12 ∷ 13 ∷ 14 ∷ 15 ∷ 16 ∷ 17 ∷ 18 ∷ 19 ∷ 20 ∷ 21 ∷ 22 ∷ 23 ∷ 24 ∷ 25 ∷ 26 ∷ 27 ∷ 28 ∷ 29 ∷ 30 ∷ 31 ∷ 32 ∷ [])
+
+-- all that they held but for slots 1 and 3
+abbrev pub but : Option Face → Option Face → List (Option Face)
+but x y = other 0 ∷ x ∷ other 2 ∷ y ∷ (other 4 ∷ other 5 ∷ other 6 ∷ other 7 ∷ other 8 ∷ other 9 ∷ other 10 ∷ other 11 ∷ other 12 ∷ other 13 ∷ other 14 ∷ other 15 ∷ other 16 ∷ other 17 ∷ other 18 ∷ other 19 ∷ other 20 ∷ other 21 ∷ other 22 ∷ other 23 ∷ other 24 ∷ other 25 ∷ other 26 ∷ other 27 ∷ other 28 ∷ other 29 ∷ other 30 ∷ other 31 ∷ none ∷ [])
+
+abbrev pub filled : ℕ → ℕ → List ℕ → List (Option Face)
+filled i L n = shown (afterLoad full i (loadOf full i L sloped n))
 
 abbrev pub After : Type 0
 After =
-    (shown (afterLoad slots 1 (load 1 5 sloped (two 2 0 3 2))) ∷ shown (afterLoad slots 3 (load 3 5 sloped (two 2 0 3 2))) ∷ shown (afterLoad slots 1 (load 1 5 sloped []))
-    ∷ shown (afterUnload slots 3 (unloadOf slots 3)) ∷ shown (afterUnload slots 1 (unloadOf slots 1)) ∷ [])
-    ≡ (none ∷ some (record { family = 72 ∷ 73 ∷ 74 ∷ []; weight = 700; width = 7; sloped = true }) ∷ none ∷ some held ∷ none ∷ []) ∷ (none ∷ none ∷ none ∷ some held ∷ none ∷ [])
-    ∷ (none ∷ none ∷ none ∷ some held ∷ none ∷ []) ∷ (none ∷ none ∷ none ∷ none ∷ none ∷ []) ∷ (none ∷ none ∷ none ∷ some held ∷ none ∷ []) ∷ []
+    (filled 1 5 (two 2 0 3 2) ∷ filled 1 6 (two 2 0 3 2) ∷ filled 32 5 (two 2 0 3 2) ∷ filled 3 5 (two 2 0 3 2) ∷ filled 1 5 []
+    ∷ shown (afterUnload full 3 (unloadOf full 3)) ∷ shown (afterUnload full 1 (unloadOf full 1)) ∷ shown (afterUnload full 32 (unloadOf full 32)) ∷ [])
+    ≡ but (some (record { family = 72 ∷ 73 ∷ 74 ∷ []; weight = 700; width = 7; sloped = true })) (other 3) ∷ but none (other 3) ∷ but none (other 3) ∷ but none (other 3) ∷ but none (other 3)
+    ∷ but none none ∷ but none (other 3) ∷ but none (other 3) ∷ []

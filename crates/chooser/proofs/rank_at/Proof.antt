@@ -1,8 +1,7 @@
 -- An unfit length is no face, and another family none of the wanted ones.
 -- Assumes nothing.
-use mathlib.Core.Path.{_≡_, refl, sym, _∙_, ap}
-use mathlib.Core.Bool.{true, false}
-use native.Mathlib.Omega.{arith}
+use mathlib.Core.Path.{_≡_, sym, _∙_}
+use mathlib.Core.Bool.{false}
 use borrow.Author.Needs.{needs}
 use Rattle.face.specs.Reading.{unfit}
 use Rattle.face.proofs.Settling.{fit-exactly}

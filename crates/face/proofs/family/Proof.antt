@@ -4,7 +4,6 @@ use mathlib.Core.Path.{_≡_, sym, _∙_, ap}
 use mathlib.Core.Option.{none}
 use denote.Ref.{now}
 use borrow.Author.Needs.{needs}
-use Rattle.outcomes.specs.Outcomes.{refused}
 use Rattle.outcomes.proofs.Laws.{passed-on}
 use Rattle.name.specs.Acceptance.{faults}
 use Rattle.name.proofs.Acceptances.{accepted-none, refused-some}

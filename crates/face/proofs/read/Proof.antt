@@ -2,7 +2,6 @@
 -- Assumes nothing.
 use Prim.Native.Nat.{_≤_}
 use mathlib.Core.Path.{_≡_, sym, _∙_, ap, subst}
-use mathlib.Core.Bool.{true, false}
 use native.Mathlib.Omega.{arith}
 use denote.Ref.{now}
 use borrow.Author.Needs.{needs}
@@ -10,7 +9,7 @@ use borrow.Author.Tests.{lt-ltb, le-ltb}
 use lib.Dec.{ltb}
 use Rattle.bigendian.specs.Numbers.{Bytes}
 use Rattle.outcomes.specs.Outcomes.{answered}
-use Rattle.level.specs.Levels.{newest, numberOf}
+use Rattle.level.specs.Levels.{numberOf}
 use Rattle.level.proofs.Laws.{known, refused}
 use Rattle.os2.specs.Replies.{saidOpening}
 use Rattle.os2_acceptance.specs.Settled.{Accepted}

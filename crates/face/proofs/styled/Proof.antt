@@ -1,6 +1,6 @@
 -- Each number is the field's.
 -- Assumes nothing.
-use mathlib.Core.Path.{_≡_, _∙_, ap}
+use mathlib.Core.Path.{_∙_, ap}
 use borrow.Author.Needs.{needs}
 use lib.Dec.{eqb}
 use Rattle.os2_rules.specs.Bits.{bit}
