@@ -904,7 +904,7 @@ fn time_racks(fonts: &[Font]) -> Vec<Bar> {
         ]),
     );
     vec![
-        bar("request, one family, to plain", 1.6, one),
+        bar("request, one family, to plain", 1.2, one),
         bar("request, eight families, to plain", 1.1, eight),
         bar("load, a font, to plain", 0.8, load),
     ]

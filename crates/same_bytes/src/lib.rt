@@ -46,7 +46,7 @@ pub fn same_fresh(a: &[u8], b: &[u8]) -> bool
         i += BLOCK;
     }
     while i < n {
-        if a[i] != b[i] {
+        if b[i] != a[i] {
             return false;
         }
         i += 1;

@@ -45,13 +45,13 @@ loop2-holds : tie.Need-loop2-holds Inv-loop μ-loop Inv-loop2 μ-loop2
 loop2-holds c = c .before .loop .inv
 
 returns-3 : tie.Need-returns-3 Inv-loop μ-loop Inv-loop2 μ-loop2
-returns-3 c = sym (byte-differs _ _ _ (c .if3 .taken))
+returns-3 c = sym (byte-differs _ _ _ (λ e. c .if3 .taken (sym e)))
 
 loop2-again : tie.Need-loop2-again Inv-loop μ-loop Inv-loop2 μ-loop2
 loop2-again c =
     let l = c .before .before .before .before .loop2 in
     let e : l .i + 1 ≡ suc (l .i) = add-one _ in
-    (omega arith, rw e (same-more _ _ (l .i) (omega arith) (omega arith) ∙ and-true _ _ .1 (l .inv .1, equal _ _ .1 (c .if3 .left))))
+    (omega arith, rw e (same-more _ _ (l .i) (omega arith) (omega arith) ∙ and-true _ _ .1 (l .inv .1, equal _ _ .1 (sym (c .if3 .left)))))
 
 returns-4 : tie.Need-returns-4 Inv-loop μ-loop Inv-loop2 μ-loop2
 returns-4 c =
