@@ -44,8 +44,11 @@ slot sloped length = record { weight = 400; width = 5; sloped = sloped; length =
 abbrev face : Bool → List ℕ → Option Face
 face sloped family = some (record { family = family; weight = 400; width = 5; sloped = sloped })
 
-pub slots-hold : map slotOf (slot 0 0 ∷ slot 0 1 ∷ slot 1 2 ∷ slot 7 2 ∷ slot 65535 3 ∷ slot 0 64 ∷ slot 0 65 ∷ slot 0 65535 ∷ slot 2 1 ∷ slot 256 1 ∷ slot 32768 1 ∷ slot 0 256 ∷ slot 0 257 ∷ slot 0 320 ∷ [])
-    ≡ none ∷ face false (70 ∷ []) ∷ face true (70 ∷ 71 ∷ []) ∷ face true (70 ∷ 71 ∷ []) ∷ face true (70 ∷ 71 ∷ 72 ∷ []) ∷ face false (70 ∷ 71 ∷ replicate 62 72) ∷ none ∷ none ∷ face true (70 ∷ []) ∷ face true (70 ∷ []) ∷ face true (70 ∷ []) ∷ none ∷ none ∷ none ∷ []
+pub slots-hold : map slotOf
+    (slot 0 0 ∷ slot 0 1 ∷ slot 1 2 ∷ slot 7 2 ∷ slot 65535 3 ∷ slot 0 64 ∷ slot 0 65 ∷ slot 0 65535
+    ∷ slot 2 1 ∷ slot 256 1 ∷ slot 32768 1 ∷ slot 0 256 ∷ slot 0 257 ∷ slot 0 320 ∷ [])
+    ≡ none ∷ face false (70 ∷ []) ∷ face true (70 ∷ 71 ∷ []) ∷ face true (70 ∷ 71 ∷ []) ∷ face true (70 ∷ 71 ∷ 72 ∷ []) ∷ face false (70 ∷ 71 ∷ replicate 62 72) ∷ none ∷ none
+    ∷ face true (70 ∷ []) ∷ face true (70 ∷ []) ∷ face true (70 ∷ []) ∷ none ∷ none ∷ none ∷ []
 unfolding slotOf unfit
 slots-hold = refl
 

@@ -134,7 +134,12 @@ shown m = map m (0 ∷ 1 ∷ 2 ∷ 3 ∷ 4 ∷ 5 ∷ 6 ∷ 7 ∷ 8 ∷ 9 ∷ 10 
 
 -- all that they held but for slots 1 and 3
 abbrev pub but : Option Face → Option Face → List (Option Face)
-but x y = other 0 ∷ x ∷ other 2 ∷ y ∷ (other 4 ∷ other 5 ∷ other 6 ∷ other 7 ∷ other 8 ∷ other 9 ∷ other 10 ∷ other 11 ∷ other 12 ∷ other 13 ∷ other 14 ∷ other 15 ∷ other 16 ∷ other 17 ∷ other 18 ∷ other 19 ∷ other 20 ∷ other 21 ∷ other 22 ∷ other 23 ∷ other 24 ∷ other 25 ∷ other 26 ∷ other 27 ∷ other 28 ∷ other 29 ∷ other 30 ∷ other 31 ∷ none ∷ [])
+but x y =
+    other 0 ∷ x ∷ other 2 ∷ y
+    ∷ other 4 ∷ other 5 ∷ other 6 ∷ other 7 ∷ other 8 ∷ other 9 ∷ other 10 ∷ other 11 ∷ other 12 ∷ other 13
+    ∷ other 14 ∷ other 15 ∷ other 16 ∷ other 17 ∷ other 18 ∷ other 19 ∷ other 20 ∷ other 21 ∷ other 22 ∷ other 23
+    ∷ other 24 ∷ other 25 ∷ other 26 ∷ other 27 ∷ other 28 ∷ other 29 ∷ other 30 ∷ other 31
+    ∷ none ∷ []
 
 abbrev pub filled : ℕ → ℕ → List ℕ → List (Option Face)
 filled i L n = shown (afterLoad full i (loadOf full i L sloped n))
