@@ -24,7 +24,6 @@ use face::Found;
 use face::is_unfit;
 use level::Level;
 use level::LevelAnswer;
-use outcomes::Carried;
 use outcomes::Told;
 use same_bytes::same_fresh;
 
@@ -100,23 +99,13 @@ impl Refusal {
         ensures { λ r. ⌜ refusalOf r ≡ saidRefusal self ⌝ }
     {
         match self {
-            Refusal::LevelAbove => bare(1),
-            Refusal::NoSlot => bare(54),
-            Refusal::Taken => bare(53),
+            Refusal::LevelAbove => Told::bare(1),
+            Refusal::NoSlot => Told::bare(54),
+            Refusal::Taken => Told::bare(53),
             Refusal::Font(why) => why.told(),
-            Refusal::Empty => bare(55),
-            Refusal::NoFace => bare(50),
+            Refusal::Empty => Told::bare(55),
+            Refusal::NoFace => Told::bare(50),
         }
-    }
-}
-
-// A refusal that carries nothing.
-fn bare(number: u32) -> Told
-    ensures { λ r. ⌜ r ≡ record { number = number; carried = Carried.Nothing } ⌝ }
-{
-    Told {
-        number,
-        carried: Carried::Nothing,
     }
 }
 

@@ -25,7 +25,6 @@ use os2_fields::WIDTH_ENTRY;
 use os2_fields::bit_of;
 use os2_fields::version_of;
 use os2_fields::word;
-use outcomes::Carried;
 use outcomes::Told;
 
 // The longest family that a slot holds, in bytes.
@@ -65,15 +64,9 @@ impl Refusal {
     {
         match self {
             Refusal::Os2(why) => why.told(),
-            Refusal::Newer => Told {
-                number: 52,
-                carried: Carried::Nothing,
-            },
+            Refusal::Newer => Told::bare(52),
             Refusal::Name(why) => why.told(),
-            Refusal::Unfit => Told {
-                number: 51,
-                carried: Carried::Nothing,
-            },
+            Refusal::Unfit => Told::bare(51),
         }
     }
 }

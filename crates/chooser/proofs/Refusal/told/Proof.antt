@@ -2,7 +2,6 @@
 -- Assumes nothing.
 use mathlib.Core.Path.{sym, _∙_, ap}
 use borrow.Author.Needs.{needs}
-use Rattle.outcomes.specs.Outcomes.{refusalOf}
 use Rattle.chooser.specs.Replies.{saidRefusal}
 use Rattle.chooser.proofs.Refusal.told.Statement.{statement}
 use Rattle.chooser.proofs.Refusal.told.Tie as tie
@@ -23,9 +22,9 @@ told-spec =
     (λ c κs. search needs)
     (λ c. search needs)
     (λ c κs. search needs)
-    (λ c. ap refusalOf (c .bare .ensures) ∙ sym (ap saidRefusal (c .before .enum-told .given .1)))
-    (λ c. ap refusalOf (c .bare2 .ensures) ∙ sym (ap saidRefusal (c .before .enum-told2 .given .1)))
-    (λ c. ap refusalOf (c .bare3 .ensures) ∙ sym (ap saidRefusal (c .before .enum-told3 .given .1)))
+    (λ c. c .bare .ensures ∙ sym (ap saidRefusal (c .before .enum-told .given .1)))
+    (λ c. c .bare2 .ensures ∙ sym (ap saidRefusal (c .before .enum-told2 .given .1)))
+    (λ c. c .bare3 .ensures ∙ sym (ap saidRefusal (c .before .enum-told3 .given .1)))
     (λ c. c .told .ensures ∙ sym (ap saidRefusal (c .before .before .self .given .1)))
-    (λ c. ap refusalOf (c .bare4 .ensures) ∙ sym (ap saidRefusal (c .before .enum-told4 .given .1)))
-    (λ c. ap refusalOf (c .bare5 .ensures) ∙ sym (ap saidRefusal (c .before .enum-told5 .given .1))))
+    (λ c. c .bare4 .ensures ∙ sym (ap saidRefusal (c .before .enum-told4 .given .1)))
+    (λ c. c .bare5 .ensures ∙ sym (ap saidRefusal (c .before .enum-told5 .given .1))))
