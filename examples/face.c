@@ -83,6 +83,7 @@ static void print_name(const uint8_t *table, size_t length)
 {
     gv_text text;
     gv_version version;
+    gv_found family;
 
     /* A well-formed PostScript name holds printable characters only. */
     printf("  PostScript name: ");
@@ -99,10 +100,10 @@ static void print_name(const uint8_t *table, size_t length)
                (unsigned long)version.record);
 
     printf("  family name, Windows, US English: ");
-    text = gv_name_lookup(table, length, 3, 1, 0x409, 1);
-    if (!refused(text.refusal))
-        printf("%lu bytes from byte %lu (record %lu)\n", (unsigned long)text.length, (unsigned long)text.start,
-               (unsigned long)text.record);
+    family = gv_name_lookup(table, length, 3, 1, 0x409, 1);
+    if (!refused(family.refusal))
+        printf("%lu bytes from byte %lu (record %lu)\n", (unsigned long)family.length, (unsigned long)family.start,
+               (unsigned long)family.record);
 }
 
 static void print_os2(const uint8_t *table, size_t length, uint32_t level)

@@ -39,10 +39,10 @@ extern "C" {
 
 /*
  * A refusal. Where the call is not refused, `number` is 0, and so are `carries` and `carried`. Where it is refused, all
- * members after the refusal are 0, in every answer, but for `side` of gv_compared, which says which table is refused, and
- * `rack` of gv_loaded, whose slots hold what they held. Where several refusals apply, the one that is given is the first in
- * the order that stands at the function. Records, tags and entries are counted from 0. For gv_name_write, 17, 18 and 19 are
- * about an entry, and carry its number.
+ * members after the refusal are 0, in every answer, but for `side` of gv_compared, which says which table is refused,
+ * `rack` of gv_loaded, whose slots hold what they held, and `looked` of gv_found, which counts also where the refusal is
+ * 20. Where several refusals apply, the one that is given is the first in the order that stands at the function. Records,
+ * tags and entries are counted from 0. For gv_name_write, 17, 18 and 19 are about an entry, and carry its number.
  *
  *   number  given exactly when                                              carried
  *     1     the level is above 5                                            -
@@ -114,6 +114,17 @@ typedef struct gv_text {
     size_t record;
 } gv_text;
 
+/* What a lookup answers: a record's string, as in gv_text, and the number of records that the search looked at, found or not,
+   after the check of the table. `looked` is 0 for a table without records and where the table is refused (any number but 0
+   and 20); else two to the power of it is at most twice the number of records, so it is never above 13. */
+typedef struct gv_found {
+    gv_refusal refusal;
+    size_t start;
+    size_t length;
+    size_t record;
+    size_t looked;
+} gv_found;
+
 /* A version number: the figures before and after the period, each below 65535, and the number of the record whose string it
    stands in, counted as in gv_text. */
 typedef struct gv_version {
@@ -127,9 +138,14 @@ typedef struct gv_version {
 gv_refusal gv_name_check(const uint8_t *table, size_t length);
 
 /* The string of the record with these four numbers, and which record that is: no two records of an accepted table have the
-   same four. Refusals as gv_name_check, then 20. Any numbers may be asked for: a part above 65535 is in no record. */
-gv_text gv_name_lookup(const uint8_t *table, size_t length, uint32_t platform, uint32_t encoding, uint32_t language,
-                       uint32_t name);
+   same four. Refusals as gv_name_check, then 20. Any numbers may be asked for: a part above 65535 is in no record.
+
+   The search goes by fixed steps, so that `looked` is the same everywhere. Between a low number, included, at first 0, and a
+   high one, excluded, at first the number of records, it looks at the record of half their sum, rounded down. Where that has
+   the four numbers, it ends; where its four are smaller, low becomes one more than it; where they are larger, high becomes
+   it. It ends where low meets high. Four numbers are compared one after the other, as numbers, also above 65535. */
+gv_found gv_name_lookup(const uint8_t *table, size_t length, uint32_t platform, uint32_t encoding, uint32_t language,
+                        uint32_t name);
 
 /* The PostScript name, as the string of the record (1, 0, 0, 6), and that record's number. It has one byte a character, and 1
    to 63 characters with codes 33 to 126 without [ ] ( ) { } < > / %. The record (3, 1, 0x409, 6) must hold the same name, two

@@ -25,6 +25,13 @@ pub struct Text {
     pub record: usize,
 }
 
+/// What a lookup tells: its answer, and how many records it looked at after its check of the table.
+#[derive(Clone, Copy, Debug, PartialEq)]
+pub struct LookedUp {
+    pub answer: Result<Text>,
+    pub looked: usize,
+}
+
 /// A version number, and the number of the record whose string it stands in.
 #[derive(Clone, Copy, Debug, PartialEq)]
 pub struct Version {

@@ -957,7 +957,7 @@ fn time_other(other: &Other, names: &[Vec<u8>], os2s: &[Vec<u8>]) {
 /// The library's calls whose instructions are counted, by name.
 type Call = (&'static str, Box<dyn FnMut()>);
 
-fn calls() -> [Call; 8] {
+fn calls() -> [Call; 9] {
     fn on<R>(table: Vec<u8>, f: impl Fn(&[u8]) -> R + 'static) -> Box<dyn FnMut()> {
         Box::new(move || {
             black_box(f(black_box(&table)));
@@ -967,6 +967,12 @@ fn calls() -> [Call; 8] {
     [
         ("check, 50 records", on(fonts::many_records(50), raw::check)),
         ("check, 5460 records", on(many(), raw::check)),
+        (
+            "check and lookup, 50 records",
+            on(fonts::many_records(50), |t| {
+                raw::lookup(t, black_box([3, 1, 0x409, 5]))
+            }),
+        ),
         (
             "check and lookup, 5460 records",
             on(many(), |t| raw::lookup(t, black_box([3, 1, 0x409, 5]))),

@@ -1,7 +1,8 @@
 //! The proved library, as `include/gyalvindor.h` declares it.
 
 use crate::answers::{
-    Answer, Compared, Entry, Face, Optical, Refusal, Request, Result, Text, Version, Written,
+    Answer, Compared, Entry, Face, LookedUp, Optical, Refusal, Request, Result, Text, Version,
+    Written,
 };
 
 #[repr(C)]
@@ -10,6 +11,15 @@ pub struct GvRefusal {
     number: u32,
     carries: u32,
     carried: usize,
+}
+
+#[repr(C)]
+pub struct GvFound {
+    refusal: GvRefusal,
+    start: usize,
+    length: usize,
+    record: usize,
+    looked: usize,
 }
 
 #[repr(C)]
@@ -120,7 +130,7 @@ unsafe extern "C" {
         encoding: u32,
         language: u32,
         name: u32,
-    ) -> GvText;
+    ) -> GvFound;
     fn gv_name_postscript(table: *const u8, length: usize) -> GvText;
     fn gv_name_version(table: *const u8, length: usize) -> GvVersion;
     fn gv_os2_check(table: *const u8, length: usize, level: u32) -> GvRefusal;
@@ -190,7 +200,7 @@ pub mod raw {
     }
 
     #[inline]
-    pub fn lookup(t: &[u8], key: [u16; 4]) -> GvText {
+    pub fn lookup(t: &[u8], key: [u16; 4]) -> GvFound {
         let [p, e, l, n] = key.map(u32::from);
         unsafe { gv_name_lookup(t.as_ptr(), t.len(), p, e, l, n) }
     }
@@ -363,16 +373,19 @@ pub fn check(t: &[u8]) -> Result<()> {
     none_or(raw::check(t), ())
 }
 
-pub fn lookup(t: &[u8], key: [u16; 4]) -> Result<Text> {
+pub fn lookup(t: &[u8], key: [u16; 4]) -> LookedUp {
     let r = raw::lookup(t, key);
-    none_or(
-        r.refusal,
-        Text {
-            start: r.start,
-            length: r.length,
-            record: r.record,
-        },
-    )
+    LookedUp {
+        answer: none_or(
+            r.refusal,
+            Text {
+                start: r.start,
+                length: r.length,
+                record: r.record,
+            },
+        ),
+        looked: r.looked,
+    }
 }
 
 pub fn postscript(t: &[u8]) -> Result<Text> {

@@ -1,8 +1,8 @@
 //! Plain safe Rust: the rules written down one after the other, each number read where it is wanted.
 
 use crate::answers::{
-    self, Answer, Compared, Entry, Optical, Refusal, Request, Result, Text, Version, Written,
-    refuse, refuse_at,
+    self, Answer, Compared, Entry, LookedUp, Optical, Refusal, Request, Result, Text, Version,
+    Written, refuse, refuse_at,
 };
 use std::cmp::Ordering;
 
@@ -109,33 +109,57 @@ pub fn check(t: &[u8]) -> Result<()> {
     Ok(())
 }
 
-fn find(t: &[u8], key: Key) -> Option<Text> {
+/// The record that has the key, and how many records were looked at. In place in `find`, where nobody asks for the count.
+#[inline(always)]
+fn search(t: &[u8], key: Key) -> (Option<Text>, usize) {
     let mut low = 0;
     let mut high = u16_at(t, 2) as usize;
+    let mut looked = 0;
     while low < high {
         let middle = (low + high) / 2;
         let record = Record::read(t, middle);
+        looked += 1;
         match record.key().cmp(&key) {
             Ordering::Less => low = middle + 1,
             Ordering::Greater => high = middle,
             Ordering::Equal => {
-                return Some(Text {
+                let text = Text {
                     start: u16_at(t, 4) as usize + record.offset as usize,
                     length: record.length as usize,
                     record: middle,
-                });
+                };
+                return (Some(text), looked);
             }
         }
     }
-    None
+    (None, looked)
+}
+
+fn find(t: &[u8], key: Key) -> Option<Text> {
+    search(t, key).0
+}
+
+/// What a lookup tells of a search, where the check has passed.
+pub fn told((found, looked): (Option<Text>, usize)) -> LookedUp {
+    LookedUp {
+        answer: found.map_or(refuse(20), Ok),
+        looked,
+    }
+}
+
+/// What it tells of a table that is refused.
+pub fn untold(refusal: Refusal) -> LookedUp {
+    LookedUp {
+        answer: Err(refusal),
+        looked: 0,
+    }
 }
 
 #[inline(never)]
-pub fn lookup(t: &[u8], key: [u16; 4]) -> Result<Text> {
-    check(t)?;
-    match find(t, (key[0], key[1], key[2], key[3])) {
-        Some(text) => Ok(text),
-        None => refuse(20),
+pub fn lookup(t: &[u8], key: [u16; 4]) -> LookedUp {
+    match check(t) {
+        Ok(()) => told(search(t, (key[0], key[1], key[2], key[3]))),
+        Err(refusal) => untold(refusal),
     }
 }
 

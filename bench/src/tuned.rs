@@ -1,7 +1,7 @@
 //! Tuned safe Rust: it loads whole words, the key as one number of 64 bits, a character is tested by one read in a table of 256, and
 //! the writer fills bytes of its own.
 
-use crate::answers::{Answer, Result, Text, Version, Written, refuse, refuse_at};
+use crate::answers::{Answer, LookedUp, Result, Text, Version, Written, refuse, refuse_at};
 use crate::plain::{self, FIELDS};
 
 fn u16_at(t: &[u8], at: usize) -> usize {
@@ -70,20 +70,25 @@ pub fn check(t: &[u8]) -> Result<()> {
     Ok(())
 }
 
-fn find(t: &[u8], wanted: u64) -> Option<Text> {
+/// The record that has the key, and how many records were looked at. In place in `find`, where nobody asks for the count.
+#[inline(always)]
+fn search(t: &[u8], wanted: u64) -> (Option<Text>, usize) {
     let records = &t[6..6 + 12 * u16_at(t, 2)];
     let mut low = 0;
     let mut high = records.len() / 12;
+    let mut looked = 0;
     while low < high {
         let middle = (low + high) / 2;
         let record = &records[12 * middle..12 * middle + 12];
         let here = key(record);
+        looked += 1;
         if here == wanted {
-            return Some(Text {
+            let text = Text {
                 start: u16_at(t, 4) + u16_at(record, 10),
                 length: u16_at(record, 8),
                 record: middle,
-            });
+            };
+            return (Some(text), looked);
         }
         if here < wanted {
             low = middle + 1;
@@ -91,7 +96,11 @@ fn find(t: &[u8], wanted: u64) -> Option<Text> {
             high = middle;
         }
     }
-    None
+    (None, looked)
+}
+
+fn find(t: &[u8], wanted: u64) -> Option<Text> {
+    search(t, wanted).0
 }
 
 fn number(key: [u16; 4]) -> u64 {
@@ -99,11 +108,10 @@ fn number(key: [u16; 4]) -> u64 {
 }
 
 #[inline(never)]
-pub fn lookup(t: &[u8], key: [u16; 4]) -> Result<Text> {
-    check(t)?;
-    match find(t, number(key)) {
-        Some(text) => Ok(text),
-        None => refuse(20),
+pub fn lookup(t: &[u8], key: [u16; 4]) -> LookedUp {
+    match check(t) {
+        Ok(()) => plain::told(search(t, number(key))),
+        Err(refusal) => plain::untold(refusal),
     }
 }
 

@@ -36,7 +36,7 @@
 //! assert_eq!(version.record, 1);
 //!
 //! // Name 1 is the family name; this table has none.
-//! assert_eq!(name::lookup(&table, 3, 1, 0x409, 1), Err(Refusal::NoRecord));
+//! assert_eq!(name::lookup(&table, 3, 1, 0x409, 1).answer, Err(Refusal::NoRecord));
 //!
 //! // A table that lost its last byte: the string of record 1 runs over its end.
 //! let cut = &table[..table.len() - 1];

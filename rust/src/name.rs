@@ -34,6 +34,16 @@ impl Text {
     }
 }
 
+/// What a lookup gives: its answer, and how many records it looked at.
+#[derive(Clone, Copy, Debug, PartialEq, Eq, Hash)]
+pub struct LookedUp {
+    /// The record's string, or why there is none.
+    pub answer: Result<Text, Refusal>,
+    /// How many records were looked at after the check of the table, found or not. It is 0 where the table is refused and
+    /// where it has no records; else two to the power of it is at most twice the number of records. So it is never above 13.
+    pub looked: usize,
+}
+
 /// A version number, such as 2.5.
 #[derive(Clone, Copy, Debug, PartialEq, Eq, Hash)]
 pub struct Version {
@@ -86,9 +96,15 @@ pub fn check(table: &[u8]) -> Result<(), Refusal> {
 ///
 /// Any numbers may be asked for; a part above 65,535 is in no record. No two records of an accepted table have the same key.
 ///
+/// Beside the answer stands how many records the search looked at, found or not. Its steps are fixed, so the count is the same
+/// everywhere. Between a low number, included, at first 0, and a high one, excluded, at first the number of records, it looks
+/// at the record of half their sum, rounded down. Where that has the key, it ends; where its key is smaller, low becomes one
+/// more than it; where its key is larger, high becomes it. It ends where low meets high. Keys are compared part by part, as
+/// numbers, also above 65,535.
+///
 /// # Errors
 ///
-/// Those of [`check`], then [`Refusal::NoRecord`].
+/// The answer is refused by those of [`check`], then by [`Refusal::NoRecord`].
 ///
 /// # Examples
 ///
@@ -102,32 +118,47 @@ pub fn check(table: &[u8]) -> Result<(), Refusal> {
 ///     0, b'A', 0, b'b', b'A', b'b',
 /// ];
 ///
-/// let family = name::lookup(&table, 3, 1, 0x409, 1)?;
+/// let family = name::lookup(&table, 3, 1, 0x409, 1).answer?;
 /// assert_eq!((family.start, family.length, family.record), (30, 4, 1));
 /// assert_eq!(table[family.range()], [0, b'A', 0, b'b']);
 ///
-/// assert_eq!(name::lookup(&table, 3, 1, 0x409, 16), Err(Refusal::NoRecord));
-/// assert_eq!(name::lookup(&table, 3 + 65_536, 1, 0x409, 1), Err(Refusal::NoRecord));
+/// // Of two records, record 1 is looked at first. A key below it needs a look at record 0 too.
+/// assert_eq!(name::lookup(&table, 3, 1, 0x409, 1).looked, 1);
+/// assert_eq!(name::lookup(&table, 1, 0, 0, 1).looked, 2);
+///
+/// // No record has these keys: one is above record 1, and one between the two.
+/// let missing = name::lookup(&table, 3, 1, 0x409, 16);
+/// assert_eq!((missing.answer, missing.looked), (Err(Refusal::NoRecord), 1));
+/// let missing = name::lookup(&table, 1, 0, 0, 1 + 65_536);
+/// assert_eq!((missing.answer, missing.looked), (Err(Refusal::NoRecord), 2));
 ///
 /// // The record can be edited where it stands: its name number becomes 16.
 /// let at = 6 + 12 * family.record;
 /// assert_eq!(table[at..at + 8], [0, 3, 0, 1, 4, 9, 0, 1]);
 /// table[at + 7] = 16;
-/// assert_eq!(name::lookup(&table, 3, 1, 0x409, 16), Ok(family));
-/// assert_eq!(name::lookup(&table, 3, 1, 0x409, 1), Err(Refusal::NoRecord));
+/// assert_eq!(name::lookup(&table, 3, 1, 0x409, 16).answer, Ok(family));
+/// assert_eq!(name::lookup(&table, 3, 1, 0x409, 1).answer, Err(Refusal::NoRecord));
+///
+/// // In a table that is refused, no record is looked at.
+/// let refused = name::lookup(&table[..table.len() - 1], 3, 1, 0x409, 16);
+/// assert_eq!(refused.answer, Err(Refusal::StringRunsOver { record: 0 }));
+/// assert_eq!(refused.looked, 0);
+///
+/// // In a table without records there is none to look at.
+/// let missing = name::lookup(&[0, 0, 0, 0, 0, 6], 3, 1, 0x409, 1);
+/// assert_eq!((missing.answer, missing.looked), (Err(Refusal::NoRecord), 0));
 /// # Ok::<(), Refusal>(())
 /// ```
-pub fn lookup(
-    table: &[u8],
-    platform: u32,
-    encoding: u32,
-    language: u32,
-    name: u32,
-) -> Result<Text, Refusal> {
-    text(raw::name_lookup(
-        table,
-        [platform, encoding, language, name],
-    ))
+pub fn lookup(table: &[u8], platform: u32, encoding: u32, language: u32, name: u32) -> LookedUp {
+    let raw = raw::name_lookup(table, [platform, encoding, language, name]);
+    LookedUp {
+        answer: Refusal::checked(raw.refusal).map(|()| Text {
+            start: raw.start,
+            length: raw.length,
+            record: raw.record,
+        }),
+        looked: raw.looked,
+    }
 }
 
 /// The PostScript name: the string of the record (1, 0, 0, 6), one byte a character, and that record's number.
@@ -369,7 +400,7 @@ pub struct Entry {
 /// assert_eq!(room[size..], [0xEE; 5]);
 ///
 /// let table = &room[..size];
-/// let family = name::lookup(table, 3, 1, 0x409, 1)?;
+/// let family = name::lookup(table, 3, 1, 0x409, 1).answer?;
 /// assert_eq!(&table[family.range()], b"\0S\0e\0r\0i\0f");
 /// assert_eq!(family.record, 1);
 ///

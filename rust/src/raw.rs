@@ -30,6 +30,17 @@ pub(crate) struct Text {
     pub(crate) record: usize,
 }
 
+/// `gv_found`.
+#[repr(C)]
+#[derive(Clone, Copy)]
+pub(crate) struct Found {
+    pub(crate) refusal: Refusal,
+    pub(crate) start: usize,
+    pub(crate) length: usize,
+    pub(crate) record: usize,
+    pub(crate) looked: usize,
+}
+
 /// `gv_version`.
 #[repr(C)]
 #[derive(Clone, Copy)]
@@ -153,7 +164,7 @@ unsafe extern "C" {
         encoding: u32,
         language: u32,
         name: u32,
-    ) -> Text;
+    ) -> Found;
     fn gv_name_postscript(table: *const u8, length: usize) -> Text;
     fn gv_name_version(table: *const u8, length: usize) -> Version;
     fn gv_os2_check(table: *const u8, length: usize, level: u32) -> Refusal;
@@ -222,7 +233,7 @@ pub(crate) fn name_check(table: &[u8]) -> Refusal {
     unsafe { gv_name_check(table.as_ptr(), table.len()) }
 }
 
-pub(crate) fn name_lookup(table: &[u8], key: [u32; 4]) -> Text {
+pub(crate) fn name_lookup(table: &[u8], key: [u32; 4]) -> Found {
     let [platform, encoding, language, name] = key;
     // SAFETY: the slice lends `len()` readable bytes from a pointer that is not null; any four numbers may be asked for.
     unsafe {

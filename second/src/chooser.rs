@@ -166,7 +166,7 @@ fn value(answer: Result<Answer, Refusal>) -> Result<i64, Refusal> {
 /// where no record 16 is there. Refusals: the table's own, 20, 51.
 fn family(table: &[u8]) -> Result<Vec<u8>, Refusal> {
     let [platform, encoding, language] = FAMILY;
-    let lookup = |name| name::lookup(table, platform, encoding, language, name);
+    let lookup = |name| name::lookup(table, platform, encoding, language, name).answer;
     // 20: no family record. A lookup of an accepted table is refused by nothing
     // else.
     let text = match lookup(FAMILY_FIRST) {

@@ -1,6 +1,6 @@
 //! A second, independent reader and writer of 'name' and of 'OS/2' tables,
 //! comparison of two of either and chooser among loaded faces, written from
-//! document 01, "The font desk's rules for 'name' and 'OS/2'", and Asks 1 to 7 of
+//! document 01, "The font desk's rules for 'name' and 'OS/2'", and Asks 1 to 8 of
 //! document 02, "The next customer requests", alone.
 //!
 //! It exists to be compared with another program. So it is written for plain

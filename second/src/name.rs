@@ -128,6 +128,17 @@ pub struct Text {
     pub record: usize,
 }
 
+/// What a lookup gives: its answer, and how many records it looked at (document
+/// 02, Ask 8).
+#[derive(Clone, Copy, Debug, PartialEq, Eq)]
+pub struct LookedUp {
+    /// The string's place and its record, or the refusal.
+    pub answer: Result<Text, Refusal>,
+    /// The records that were looked at after the check of the table, found or
+    /// not: 0 where the table is refused or has no records.
+    pub looked: usize,
+}
+
 /// The figures before and after the period of a version text.
 #[derive(Clone, Copy, Debug, PartialEq, Eq)]
 pub struct Figures {
@@ -292,24 +303,61 @@ fn language_allowed(format: u16, platform: u16, language: u16, tag_count: usize)
 /// Looks a key up: the string's place and the number of the record that has the
 /// key. Refusals: those of [`check`], then 20 when no record has it. A part above
 /// 65,535 is found in no record.
-pub fn lookup(
-    bytes: &[u8],
-    platform: u32,
-    encoding: u32,
-    language: u32,
-    name: u32,
-) -> Result<Text, Refusal> {
-    let table = read(bytes)?;
-    for (number, record) in table.records.iter().enumerate() {
-        if u32::from(record.platform) == platform
-            && u32::from(record.encoding) == encoding
-            && u32::from(record.language) == language
-            && u32::from(record.name) == name
-        {
-            return Ok(table.text(number));
+///
+/// Beside the answer stands how many records the lookup looked at after the
+/// check (document 02, Ask 8), found or not; a refused table gives 0.
+pub fn lookup(bytes: &[u8], platform: u32, encoding: u32, language: u32, name: u32) -> LookedUp {
+    let table = match read(bytes) {
+        Ok(table) => table,
+        Err(refusal) => {
+            return LookedUp {
+                answer: Err(refusal),
+                looked: 0,
+            }
+        }
+    };
+    let key = [platform, encoding, language, name];
+    let keys: Vec<[u32; 4]> = table.records.iter().map(whole_key).collect();
+    LookedUp {
+        answer: match keys.iter().position(|&other| other == key) {
+            Some(number) => Ok(table.text(number)),
+            None => Err(Refusal::plain(20)),
+        },
+        looked: looked_at(&keys, key),
+    }
+}
+
+/// A record's key as numbers that may be compared with any four. Arrays compare
+/// part by part.
+fn whole_key(record: &Record) -> [u32; 4] {
+    [
+        record.platform,
+        record.encoding,
+        record.language,
+        record.name,
+    ]
+    .map(u32::from)
+}
+
+/// How many of these rising keys document 02's Ask 8 looks at for a key. This
+/// counts its steps and finds nothing: the answer is not taken from here.
+fn looked_at(keys: &[[u32; 4]], key: [u32; 4]) -> usize {
+    // Low is included, high is not.
+    let (mut low, mut high) = (0, keys.len());
+    let mut looked = 0;
+    while low != high {
+        let half = (low + high) / 2;
+        looked += 1;
+        if keys[half] == key {
+            break;
+        }
+        if keys[half] < key {
+            low = half + 1;
+        } else {
+            high = half;
         }
     }
-    Err(Refusal::plain(20))
+    looked
 }
 
 /// The PostScript name's place and record, which are those of (1, 0, 0, 6).

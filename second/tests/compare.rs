@@ -595,6 +595,7 @@ fn rows_are_the_lookups_that_differ() {
             let found = [left, right].map(|table| {
                 let (p, e, l, n) = asked;
                 name::lookup(table, p.into(), e.into(), l.into(), n.into())
+                    .answer
                     .ok()
                     .map(|text| &table[text.start..text.start + text.length])
             });

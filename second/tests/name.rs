@@ -3,7 +3,7 @@
 mod common;
 
 use common::*;
-use second::name::{self, Text, Version};
+use second::name::{self, LookedUp, Text, Version};
 use second::Refusal;
 
 const PS1: (u16, u16, u16, u16) = (1, 0, 0, 6);
@@ -26,7 +26,7 @@ fn starred_smallest_table() {
             part(&mut numbers),
             part(&mut numbers),
         ];
-        assert_eq!(name::lookup(&table, key[0], key[1], key[2], key[3]), no(20));
+        assert_eq!(looked_up(&table, key), missing(0));
     }
     assert_eq!(name::postscript(&table), no(21));
     assert_eq!(name::version(&table), no(20));
@@ -620,9 +620,13 @@ fn check_agrees_with_the_naive_check() {
 fn passed_on(table: &[u8], refusal: Refusal) {
     assert_eq!(name::check(table), Err(refusal));
     assert_eq!(name::read(table), Err(refusal));
-    assert_eq!(name::lookup(table, 1, 0, 0, 6), Err(refusal));
-    assert_eq!(name::lookup(table, 1, 0, 0, 5), Err(refusal));
-    assert_eq!(name::lookup(table, 65_536, 0, 0, 0), Err(refusal));
+    for key in [[1, 0, 0, 6], [1, 0, 0, 5], [65_536, 0, 0, 0]] {
+        let refused = LookedUp {
+            answer: Err(refusal),
+            looked: 0,
+        };
+        assert_eq!(looked_up(table, key), refused);
+    }
     assert_eq!(name::postscript(table), Err(refusal));
     assert_eq!(name::version(table), Err(refusal));
 }
@@ -683,10 +687,23 @@ fn at(start: usize, length: usize, record: usize) -> Result<Text, Refusal> {
     })
 }
 
+/// What a lookup of any four numbers gives.
+fn looked_up(table: &[u8], [p, e, l, n]: [u32; 4]) -> LookedUp {
+    name::lookup(table, p, e, l, n)
+}
+
 /// The answer to a key.
 fn lookup(table: &[u8], key: (u16, u16, u16, u16)) -> Result<Text, Refusal> {
     let (p, e, l, n) = key;
-    name::lookup(table, p.into(), e.into(), l.into(), n.into())
+    looked_up(table, [p, e, l, n].map(u32::from)).answer
+}
+
+/// What a lookup gives that finds no record and looks at so many.
+fn missing(looked: usize) -> LookedUp {
+    LookedUp {
+        answer: no(20),
+        looked,
+    }
 }
 
 #[test]
@@ -695,15 +712,15 @@ fn lookup_counts_from_the_first_byte() {
         &[[1, 0, 0, 6, 2, 0], [3, 1, 0x409, 6, 4, 2]],
         &[0x41, 0x62, 0, 0x41, 0, 0x62],
     );
-    assert_eq!(name::lookup(&table, 1, 0, 0, 6), at(30, 2, 0));
-    assert_eq!(name::lookup(&table, 3, 1, 0x409, 6), at(32, 4, 1));
-    assert_eq!(name::lookup(&table, 3, 1, 0x409, 5), no(20));
+    assert_eq!(looked_up(&table, [1, 0, 0, 6]).answer, at(30, 2, 0));
+    assert_eq!(looked_up(&table, [3, 1, 0x409, 6]).answer, at(32, 4, 1));
+    assert_eq!(looked_up(&table, [3, 1, 0x409, 5]).answer, no(20));
     // Parts above 65,535 don't wrap.
-    assert_eq!(name::lookup(&table, 65_537, 0, 0, 6), no(20));
-    assert_eq!(name::lookup(&table, 1, 65_536, 0, 6), no(20));
-    assert_eq!(name::lookup(&table, 1, 0, 65_536, 6), no(20));
-    assert_eq!(name::lookup(&table, 1, 0, 0, 65_542), no(20));
-    assert_eq!(name::lookup(&table, u32::MAX, 0, 0, 6), no(20));
+    assert_eq!(looked_up(&table, [65_537, 0, 0, 6]).answer, no(20));
+    assert_eq!(looked_up(&table, [1, 65_536, 0, 6]).answer, no(20));
+    assert_eq!(looked_up(&table, [1, 0, 65_536, 6]).answer, no(20));
+    assert_eq!(looked_up(&table, [1, 0, 0, 65_542]).answer, no(20));
+    assert_eq!(looked_up(&table, [u32::MAX, 0, 0, 6]).answer, no(20));
 }
 
 #[test]
@@ -753,9 +770,9 @@ fn strings_may_overlap_and_be_empty() {
         &[[0, 0, 0, 0, 4, 0], [0, 0, 0, 1, 3, 1], [0, 0, 0, 2, 0, 4]],
         b"abcd",
     );
-    assert_eq!(name::lookup(&table, 0, 0, 0, 0), at(42, 4, 0));
-    assert_eq!(name::lookup(&table, 0, 0, 0, 1), at(43, 3, 1));
-    assert_eq!(name::lookup(&table, 0, 0, 0, 2), at(46, 0, 2));
+    assert_eq!(looked_up(&table, [0, 0, 0, 0]).answer, at(42, 4, 0));
+    assert_eq!(looked_up(&table, [0, 0, 0, 1]).answer, at(43, 3, 1));
+    assert_eq!(looked_up(&table, [0, 0, 0, 2]).answer, at(46, 0, 2));
 }
 
 #[test]
@@ -763,7 +780,7 @@ fn a_gap_before_the_storage() {
     // Storage start 20 where the records end at 18.
     let mut table = name0(&[[1, 0, 0, 5, 3, 1]], b"--x1.2");
     put(&mut table, 4, 20);
-    assert_eq!(name::lookup(&table, 1, 0, 0, 5), at(21, 3, 0));
+    assert_eq!(looked_up(&table, [1, 0, 0, 5]).answer, at(21, 3, 0));
     assert_eq!(name::version(&table), found(1, 2));
 }
 
@@ -951,6 +968,296 @@ fn a_refusal_tells_no_record() {
         assert_eq!(name::version(&table), no(number));
     }
     assert_eq!(lookup(&one((PS1, b"Ab")), (1, 0, 0, 5)), no(20));
+}
+
+// ---- how many records a lookup looks at ----
+
+/// The keys of so many records and those between, in their order: below the
+/// first, the first, between it and the second, and so on up to above the last.
+/// So the records have the odd places.
+type Keys = Vec<[u16; 4]>;
+
+/// Keys that differ in one part alone, in each of the four, and in all of them
+/// in turn.
+fn key_shapes(count: u16) -> Vec<Keys> {
+    let places = 0..=2 * count;
+    let mut shapes: Vec<Keys> = (0..4)
+        .map(|part| {
+            let key = |place| {
+                let mut key = [700, 80, 9, 1];
+                key[part] = 100 + place;
+                key
+            };
+            places.clone().map(key).collect()
+        })
+        .collect();
+    // Two values in each of the last three parts, the rest in the first.
+    let spread = |place: u16| [place / 8, place / 4 % 2, place / 2 % 2, place % 2];
+    shapes.push(places.clone().map(spread).collect());
+    // Later parts fall where an earlier one rises.
+    let falling = |place: u16| [3, place / 9, 9 - place / 3 % 3, 9 - place % 3];
+    let mut falling: Keys = places.map(falling).collect();
+    falling.sort();
+    shapes.push(falling);
+    shapes
+}
+
+/// Tables of both formats whose records have the keys in the odd places.
+fn at_odd_places(keys: &[[u16; 4]]) -> [Vec<u8>; 2] {
+    let odd = keys.iter().skip(1).step_by(2);
+    let records: Vec<Entry> = odd.map(|&[p, e, l, n]| [p, e, l, n, 0, 0]).collect();
+    [name0(&records, b""), name1(&records, &[], b"")]
+}
+
+/// Whether a count is allowed for so many records: 0 where there are none, else
+/// two to its power is at most twice their number.
+fn allowed(looked: usize, records: usize) -> bool {
+    match records {
+        0 => looked == 0,
+        _ => looked <= 13 && 1 << looked <= 2 * records,
+    }
+}
+
+/// Each key of small tables and each key between, with the counts that Ask 8's
+/// steps give, worked out by hand.
+#[test]
+fn every_key_of_small_tables_is_looked_at_as_often_as_by_hand() {
+    let by_hand: [(u16, &[usize]); 7] = [
+        (0, &[0]),
+        (1, &[1, 1, 1]),
+        // Record 1 first, then record 0.
+        (2, &[2, 2, 2, 1, 1]),
+        // Record 1 first, then record 0 or 2.
+        (3, &[2, 2, 2, 1, 2, 2, 2]),
+        // Record 2 first, then record 1 or 3, then record 0.
+        (4, &[3, 3, 3, 2, 2, 1, 2, 2, 2]),
+        // Record 3 first, then record 1 or 5, then one of the others.
+        (7, &[3, 3, 3, 2, 3, 3, 3, 1, 3, 3, 3, 2, 3, 3, 3]),
+        // Record 4 first, then record 2 or 6, then 1, 3, 5 or 7, then record 0.
+        (8, &[4, 4, 4, 3, 3, 2, 3, 3, 3, 1, 3, 3, 3, 2, 3, 3, 3]),
+    ];
+    for (count, expected) in by_hand {
+        for keys in key_shapes(count) {
+            assert_eq!(keys.len(), expected.len());
+            for table in at_odd_places(&keys) {
+                for (place, key) in keys.iter().enumerate() {
+                    let LookedUp { answer, looked } = looked_up(&table, whole(*key));
+                    let record = match place % 2 {
+                        1 => Ok(place / 2),
+                        _ => no(20),
+                    };
+                    assert_eq!(answer.map(|text| text.record), record);
+                    assert_eq!(looked, expected[place], "{count} records, {key:?}");
+                    assert!(allowed(looked, usize::from(count)));
+                }
+            }
+        }
+    }
+}
+
+/// Two to the power of the count is at most twice the number of records, and
+/// for every number of records some key comes as near as can be.
+#[test]
+fn the_bound_holds_and_is_reached() {
+    for count in 0..=70 {
+        let keys = &key_shapes(count)[4];
+        for table in at_odd_places(keys) {
+            let counts = keys.iter().map(|key| looked_up(&table, whole(*key)).looked);
+            let most = counts.max().unwrap();
+            let count = usize::from(count);
+            assert!(allowed(most, count));
+            assert!(!allowed(most + 1, count));
+        }
+    }
+}
+
+/// The largest tables: never above 13, and 13 is reached, found and not found.
+#[test]
+fn the_most_records_are_looked_at_up_to_13_times() {
+    for count in [5_459, 5_460] {
+        // The record's number is 64 times the language and the name.
+        let key = |number: u16| [3, 1, number / 64, 2 * (number % 64) + 1];
+        let records: Vec<Entry> = (0..count)
+            .map(key)
+            .map(|[p, e, l, n]| [p, e, l, n, 0, 0])
+            .collect();
+        for table in [name0(&records, b""), name1(&records, &[], b"")] {
+            let mut most = [0, 0];
+            let numbers = (0..count).step_by(17).chain(count - 20..count);
+            for number in numbers {
+                let [p, e, l, n] = key(number).map(u32::from);
+                let found = looked_up(&table, [p, e, l, n]);
+                assert_eq!(
+                    found.answer.map(|text| text.record),
+                    Ok(usize::from(number))
+                );
+                assert!(allowed(found.looked, usize::from(count)));
+                most[0] = most[0].max(found.looked);
+                for beside in [[p, e, l, n - 1], [p, e, l, n + 1]] {
+                    let LookedUp { answer, looked } = looked_up(&table, beside);
+                    assert_eq!(answer, no(20));
+                    assert!(allowed(looked, usize::from(count)));
+                    most[1] = most[1].max(looked);
+                }
+            }
+            assert_eq!(most, [13, 13]);
+        }
+    }
+    // Some of 5,460, by hand: the first half is 2,730, the second 1,365 or
+    // 4,095. Record 0 is the last of thirteen, record 5,459 of twelve.
+    let records: Vec<Entry> = (0..5460).map(|n| [3, 1, 1033, n, 1, n % 10]).collect();
+    let table = name0(&records, &[0; 10]);
+    for (key, looked) in [
+        ([3, 1, 1033, 2_730], 1),
+        ([3, 1, 1033, 1_365], 2),
+        ([3, 1, 1033, 4_095], 2),
+        ([3, 1, 1033, 682], 3),
+        ([3, 1, 1033, 1], 12),
+        ([3, 1, 1033, 0], 13),
+        ([3, 1, 1033, 5_459], 12),
+        ([3, 1, 1033, 5_460], 12),
+        ([3, 1, 1033, 65_536], 12),
+        ([3, 1, 1034, 0], 12),
+        ([3, 1, 1032, 65_536], 13),
+        ([0, 0, 0, 0], 13),
+        ([u32::MAX; 4], 12),
+    ] {
+        assert_eq!(looked_up(&table, key).looked, looked, "{key:?}");
+    }
+}
+
+/// A part above 65,535 is above every record's: the search stays among those
+/// that share the parts before it, and ends below the ones above.
+#[test]
+fn a_part_above_65_535_is_simply_above() {
+    let keys = [
+        [1, 1, 1, 1],
+        [1, 1, 1, 2],
+        [1, 1, 2, 1],
+        [1, 2, 1, 1],
+        [2, 1, 1, 1],
+    ];
+    let table = keyed(&keys);
+    // Of five records number 2 comes first, then 1 or 4, then 0 or 3.
+    for (key, looked) in [
+        ([1, 1, 1, 1], 3),
+        ([1, 1, 1, 2], 2),
+        ([1, 1, 2, 1], 1),
+        ([1, 2, 1, 1], 3),
+        ([2, 1, 1, 1], 2),
+    ] {
+        assert!(looked_up(&table, key).answer.is_ok());
+        assert_eq!(looked_up(&table, key).looked, looked, "{key:?}");
+    }
+    for above in [65_536, 65_537, 65_538, 131_073, 1 << 31 | 1, u32::MAX] {
+        // Behind record 1: record 2, then 1.
+        assert_eq!(looked_up(&table, [1, 1, 1, above]), missing(2));
+        // Behind record 2: record 2, then 4, then 3.
+        assert_eq!(looked_up(&table, [1, 1, above, 0]), missing(3));
+        assert_eq!(looked_up(&table, [1, 1, above, 1]), missing(3));
+        // Behind record 3: record 2, then 4, then 3.
+        assert_eq!(looked_up(&table, [1, above, 0, 0]), missing(3));
+        assert_eq!(looked_up(&table, [1, above, 1, 1]), missing(3));
+        // Behind record 4: record 2, then 4.
+        assert_eq!(looked_up(&table, [above, 0, 0, 0]), missing(2));
+        assert_eq!(looked_up(&table, [above, 1, 1, 1]), missing(2));
+        assert_eq!(looked_up(&table, [2, above, 1, 1]), missing(2));
+        assert_eq!(looked_up(&table, [above; 4]), missing(2));
+        // Before record 0: record 2, then 1, then 0. The first part decides.
+        assert_eq!(looked_up(&table, [0, above, above, above]), missing(3));
+        assert_eq!(looked_up(&table, [1, 0, above, above]), missing(3));
+        assert_eq!(looked_up(&table, [1, 1, 0, above]), missing(3));
+    }
+    // The highest number that a record holds is below 65,536.
+    let table = keyed(&[[0xFFFF, 0xFFFF, 0, 0xFFFF]]);
+    assert_eq!(looked_up(&table, [65_536, 0, 0, 0]), missing(1));
+    let found = looked_up(&table, [65_535, 65_535, 0, 65_535]);
+    assert_eq!((found.answer, found.looked), (at(18, 0, 0), 1));
+}
+
+/// The count is the steps' whatever the strings are, and in a table of any kind.
+#[test]
+fn the_count_is_that_of_the_steps_in_any_table() {
+    /// The steps by their words, from the low number and the high one.
+    fn steps(keys: &[[u32; 4]], key: [u32; 4], low: usize, high: usize) -> usize {
+        if low == high {
+            return 0;
+        }
+        let half = (low + high) / 2;
+        match keys[half].cmp(&key) {
+            std::cmp::Ordering::Equal => 1,
+            std::cmp::Ordering::Less => 1 + steps(keys, key, half + 1, high),
+            std::cmp::Ordering::Greater => 1 + steps(keys, key, low, half),
+        }
+    }
+    let mut numbers = Numbers::new(8);
+    for _ in 0..20_000 {
+        let table = any_table(&mut numbers);
+        let keys: Option<Vec<[u32; 4]>> = name::read(&table).ok().map(|contents| {
+            let key = |r: &name::Record| [r.platform, r.encoding, r.language, r.name];
+            contents.records.iter().map(key).map(whole).collect()
+        });
+        for _ in 0..20 {
+            let mut key = [
+                numbers.pick(&[0, 1, 3, 240, 65_535]),
+                numbers.pick(&[0, 1]),
+                numbers.pick(&[0, 0x409, 0x8000, 0x8001]),
+                numbers.pick(&[5, 6, 7]),
+            ];
+            if numbers.below(4) == 0 {
+                key[numbers.below(4) as usize] += 65_536;
+            }
+            let expected = match &keys {
+                Some(keys) => steps(keys, key, 0, keys.len()),
+                None => 0,
+            };
+            assert_eq!(looked_up(&table, key).looked, expected);
+        }
+    }
+}
+
+/// A refused table reports 0, also where it has records and one has the key.
+#[test]
+fn a_refused_table_is_not_looked_at() {
+    let fine = [
+        [1, 0, 0, 5, 1, 0],
+        [1, 0, 0, 6, 1, 0],
+        [3, 1, 0x409, 6, 1, 0],
+    ];
+    let key = [1, 0, 0, 6];
+    let found = looked_up(&name0(&fine, b"x"), key);
+    assert_eq!((found.answer, found.looked), (at(42, 1, 1), 1));
+    let with = |last| name0(&[&fine[..], &[last]].concat(), b"x");
+    let mut start = name0(&fine, b"x");
+    put(&mut start, 4, 41);
+    let mut format = name0(&fine, b"x");
+    put(&mut format, 0, 2);
+    for (table, refusal) in [
+        (vec![0, 0, 0, 3, 0], no(10)),
+        (format, no(11)),
+        (name0(&fine, b"")[..41].to_vec(), no(12)),
+        (name1(&fine, &[], b"")[..43].to_vec(), no(13)),
+        (start, no(14)),
+        (with([3, 1, 0x409, 7, 0, 2]), no_at(15, 3)),
+        (with([3, 1, 0x409, 7, 2, 0]), no_at(27, 3)),
+        (with([3, 1, 0x8000, 7, 1, 0]), no_at(18, 3)),
+        (with([1, 0, 0, 6, 1, 0]), no_at(17, 3)),
+        (with([3, 1, 0x409, 6, 1, 0]), no_at(19, 3)),
+        (name1(&fine, &[[2, 0]], b"x"), no_at(16, 0)),
+    ] {
+        for key in [key, [0, 0, 0, 0], [65_536, 0, 0, 6], [u32::MAX; 4]] {
+            let refused = LookedUp {
+                answer: refusal,
+                looked: 0,
+            };
+            assert_eq!(looked_up(&table, key), refused);
+        }
+    }
+}
+
+/// Four numbers as a lookup takes them.
+fn whole(key: [u16; 4]) -> [u32; 4] {
+    key.map(u32::from)
 }
 
 // ---- the PostScript question ----

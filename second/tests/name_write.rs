@@ -104,7 +104,8 @@ fn read_back(entries: &[Entry], pool: &[u8], table: &[u8]) {
             encoding.into(),
             language.into(),
             name.into(),
-        );
+        )
+        .answer;
         let text = &pool[entry.start as usize..][..usize::from(entry.length)];
         let expected = Text {
             start,
@@ -231,13 +232,15 @@ fn the_most_entries() {
     assert_eq!(name::check(&table), Ok(()));
     assert_eq!(table[..6], [0, 0, 0x15, 0x54, 0xFF, 0xF6]);
     for number in [0, 1, 255, 256, 2_730, 5_458, 5_459] {
-        let text = name::lookup(&table, 3, 1, 0x409, number as u32).unwrap();
+        let text = name::lookup(&table, 3, 1, 0x409, number as u32)
+            .answer
+            .unwrap();
         assert_eq!(text.record, number);
         let (start, length) = places[number];
         let bytes = &table[text.start..text.start + text.length];
         assert_eq!(bytes, &pool[start as usize..][..usize::from(length)]);
     }
-    assert_eq!(name::lookup(&table, 3, 1, 0x409, 5_460), no(20));
+    assert_eq!(name::lookup(&table, 3, 1, 0x409, 5_460).answer, no(20));
 }
 
 #[test]
@@ -260,7 +263,7 @@ fn a_table_longer_than_65_536_bytes() {
         let table = exactly(&entries, &pool).unwrap();
         assert_eq!(table.len(), size);
         assert_eq!(table, by_hand(&entries, &pool));
-        let found = name::lookup(&table, 3, 1, 0x409, 5_459).unwrap();
+        let found = name::lookup(&table, 3, 1, 0x409, 5_459).answer.unwrap();
         assert_eq!(found.record, 5_459);
         assert_eq!(found.start, 65_526);
         assert_eq!(table[65_526..], pool[..usize::from(length)]);

@@ -200,7 +200,8 @@ fn wrong_comparisons() {
 }
 
 /// The lines of `rows` for strings and version numbers that are found, with the
-/// record's number, and for bare version texts, which have none.
+/// record's number, and for bare version texts, which have none. A lookup's line
+/// ends with how many records it looked at.
 #[test]
 fn rows_tell_the_record() {
     let rows = |arguments: &[&str], input: &str| {
@@ -221,19 +222,30 @@ fn rows_tell_the_record() {
     let table = "= name 0000 0004 0036 0000 0003 0000 0006 0002 0000 \
                  0001 0000 0000 0005 0003 0002 0001 0000 0000 0006 0001 0005 \
                  0003 0001 0409 0006 0002 0006 4363 312e 3241 0041";
-    let asked = "postscript\nversion\nlookup 0 3 0 6\nlookup 3 1 1033 6\nlookup 0 3 0 5\n";
+    let asked = "postscript\nversion\nlookup 0 3 0 6\nlookup 3 1 1033 6\nlookup 0 3 0 5\n\
+                 lookup 1 0 65536 5\n";
     assert_eq!(
         rows(&[], &format!("# words\n{table}\n{asked}")),
         "# words\n\
          postscript: start 59 length 1 record 2\n\
          version: 1 2 record 1\n\
-         lookup 0 3 0 6: start 54 length 2 record 0\n\
-         lookup 3 1 1033 6: start 60 length 2 record 3\n\
-         lookup 0 3 0 5: refused 20\n"
+         lookup 0 3 0 6: start 54 length 2 record 0 looked 3\n\
+         lookup 3 1 1033 6: start 60 length 2 record 3 looked 2\n\
+         lookup 0 3 0 5: refused 20 looked 3\n\
+         lookup 1 0 65536 5: refused 20 looked 2\n"
     );
     assert_eq!(
         rows(&[], "= name largest\nlookup 3 1 1033 5459\nversion\n"),
-        "lookup 3 1 1033 5459: start 65535 length 1 record 5459\nversion: refused 25\n"
+        "lookup 3 1 1033 5459: start 65535 length 1 record 5459 looked 12\nversion: refused 25\n"
+    );
+    // A table that is refused with a place and one without.
+    let asked = "= name 0000 0001 0012 0001 0000 0000 0006 0000 0003 4162\nlookup 1 0 0 6\n\
+                 = name 0000 0000 0007\nlookup 1 0 0 6\n= name 0000 0000 0006\nlookup 1 0 0 6\n";
+    assert_eq!(
+        rows(&[], asked),
+        "lookup 1 0 0 6: refused 15 at 0 looked 0\n\
+         lookup 1 0 0 6: refused 14 looked 0\n\
+         lookup 1 0 0 6: refused 20 looked 0\n"
     );
     assert_eq!(
         rows(&["versions"], "v 2.5\n"),

@@ -5,14 +5,13 @@ ghost use mathlib.Core.Path.{_≡_};
 ghost use mathlib.Core.Option.{none};
 ghost use Rattle.outcomes.specs.Outcomes.{refusalOf};
 ghost use Rattle.name.specs.Acceptance.{faults};
-ghost use Rattle.name_lookup.specs.Answers.{saidLookup, lookupOf};
+ghost use Rattle.name_lookup.specs.Answers.{saidAnswer, lookupOf};
 ghost use Rattle.face.specs.Reading.{unfit, familyKey, familyOf, faceIn};
 ghost use Rattle.face.specs.Replies.{saidFaceRefusal, saidFound, FoundFits, Words, styleIn};
 use level::Level;
 use level::LevelAnswer;
 use name::Verdict;
 use name_lookup::Answer;
-use name_lookup::LookedUp;
 use name_lookup::LookupRefusal;
 use name_search::Text;
 use name_search::find;
@@ -85,8 +84,7 @@ pub fn read(os2: &[u8], name: &[u8], level: u32) -> Found
         return Found::Refused(Refusal::Newer);
     }
     let found = family(name);
-    let answer = found.answer;
-    match answer {
+    match found {
         Answer::Refused(why) => Found::Refused(Refusal::Name(why)),
         Answer::Found(text) => {
             if is_unfit(text.len) {
@@ -115,17 +113,14 @@ fn styled(os2: &[u8], text: Text) -> FaceAt
 }
 
 // Where the family's text stands: the string of the record (3, 1, 0x409, 16), or of ID 1 where that is not there.
-fn family(name: &[u8]) -> LookedUp
-    ensures { λ r. ⌜ saidLookup r ≡ familyOf (now (name .entry)) ⌝ }
+fn family(name: &[u8]) -> Answer
+    ensures { λ r. ⌜ saidAnswer r ≡ familyOf (now (name .entry)) ⌝ }
 {
     if let Verdict::Refused(why) = name::check(name) {
-        return LookedUp {
-            answer: Answer::Refused(LookupRefusal::Table(why)),
-        };
+        return Answer::Refused(LookupRefusal::Table(why));
     }
     let first = look_up(name, 16);
-    let answer = first.answer;
-    if let Answer::Refused(why) = answer {
+    if let Answer::Refused(why) = first {
         if let LookupRefusal::NoRecord = why {
             return look_up(name, 1);
         }
@@ -134,19 +129,15 @@ fn family(name: &[u8]) -> LookedUp
 }
 
 // The string of the record (3, 1, 0x409, id) of an accepted table.
-fn look_up(name: &[u8], id: u32) -> LookedUp
+fn look_up(name: &[u8], id: u16) -> Answer
     requires { ⌜ faults (now name) ≡ none ⌝ }
-    ensures { λ r. ⌜ saidLookup r ≡ lookupOf (now (name .entry)) (familyKey id) ⌝ }
+    ensures { λ r. ⌜ saidAnswer r ≡ lookupOf (now (name .entry)) (familyKey id) ⌝ }
 {
     let search = find(name, 3, 1, 0x409, id);
     let found = search.found;
     match found {
-        name_search::Found::Record(i) => LookedUp {
-            answer: Answer::Found(text_of(name, i)),
-        },
-        name_search::Found::Nothing => LookedUp {
-            answer: Answer::Refused(LookupRefusal::NoRecord),
-        },
+        name_search::Found::Record(i) => Answer::Found(text_of(name, i)),
+        name_search::Found::Nothing => Answer::Refused(LookupRefusal::NoRecord),
     }
 }
 

@@ -18,7 +18,7 @@ use Rattle.name_layout.specs.Layout.{bytesOf}
 use Rattle.name_search.specs.Searches.{recordWith, textOf}
 use Rattle.name.specs.Acceptance.{faults, checkOf}
 use Rattle.name.proofs.Acceptances.{not-tables}
-use Rattle.name_lookup.specs.Answers.{lookupOf}
+use Rattle.name_lookup.specs.Answers.{lookupOf, lookedOf}
 use Rattle.name_answers.specs.Forms.{otherAt, illFormed, differAt, differ}
 use Rattle.name_answers.specs.Names.{fromStrings, fromBoth, postscriptOf}
 use Rattle.name_answers.specs.Versions.{fromRecords, versionOf}
@@ -42,8 +42,8 @@ use Rattle.os2.specs.Replies.{kindOf, of-number}
 use Rattle.refusal_words.specs.declared.GvRefusal.{GvRefusal}
 use Rattle.refusal_words.specs.Words.{refusalWords, outcomeRefusal}
 use Rattle.refusal_words.proofs.ReadBack.{Numbered, Back, back-unless, checkSaid, check-back}
-use Rattle.name_words.specs.Words.{textWords, versionWords}
-use Rattle.name_words.proofs.ReadBack.{textSaid, text-back, versionSaid, version-back, number-back}
+use Rattle.name_words.specs.Words.{foundWords, textWords, versionWords}
+use Rattle.name_words.proofs.ReadBack.{foundSaid, found-back, looked-back, textSaid, text-back, versionSaid, version-back, number-back}
 use Rattle.os2_words.specs.Words.{membersOf, numberWords, rightsWords, styleWords, opticalWords, writtenWords}
 use Rattle.os2_words.proofs.ReadBack.{saidBy, numberSaid, rightsSaid, styleSaid, sizesIn, opticalSaid, sizes-back, writtenSaid, written-back}
 use Rattle.name_search.specs.declared.Text.{Text}
@@ -120,11 +120,11 @@ os2-check-said L b = check-back _ (both _ _ (one _ _ refl) (judged-numbered L b)
 
 -- ---- 'name' questions
 
-pub lookup-said : (t : List ℕ) (k : Key) → textSaid (textWords (lookupOf t k)) ≡ lookupOf t k
-unfolding lookupOf foundOr textWords
-lookup-said t k = text-back (faults t) _ (faults-numbered t) (at (recordWith t k))
+pub lookup-said : (t : List ℕ) (k : Key) → let w = foundWords (lookupOf t k) (lookedOf t k) in (foundSaid w ≡ lookupOf t k) × (w .looked ≡ lookedOf t k)
+unfolding lookupOf foundOr foundWords
+lookup-said t k = (found-back (lookedOf t k) (faults t) _ (faults-numbered t) (at (recordWith t k)), looked-back (lookupOf t k) (lookedOf t k))
   where
-    at : (q : Option ℕ) → let o = foundOr (bare 20) q (λ i. answered (textOf t i)) in textSaid (textWords o) ≡ o
+    at : (q : Option ℕ) → let o = foundOr (bare 20) q (λ i. answered (textOf t i)) in foundSaid (foundWords o (lookedOf t k)) ≡ o
     at none = refl
     at (some i) = refl
 

@@ -1,12 +1,12 @@
 // The readers, the comparison, the writers and the chooser for C and Rust: the functions of the static library, each answering in plain numbers.
-// Document 01, whole, and document 02, Asks 1 to 7; `include/gyalvindor.h` says the same to a C programmer.
+// Document 01, whole, and document 02, Asks 1 to 8; `include/gyalvindor.h` says the same to a C programmer.
 // Relies on `name`, `name_lookup`, `name_strings` and `name_writer`, on `os2` and `os2_writer`, on `name_compare`, `os2_compare` and `chooser`, which answer, and on
 // `name_words`, `name_writer_words`, `os2_words`, `compare_words` and `chooser_words`, which put an answer into words of C.
 ghost use mathlib.Core.Path.{_≡_};
 ghost use lib.ListN.{length};
 ghost use Rattle.name_layout.specs.Keys.{keyFrom};
 ghost use Rattle.name.specs.Acceptance.{checkOf};
-ghost use Rattle.name_lookup.specs.Answers.{lookupOf};
+ghost use Rattle.name_lookup.specs.Answers.{lookupOf, lookedOf};
 ghost use Rattle.name_answers.specs.Names.{postscriptOf};
 ghost use Rattle.name_answers.specs.Versions.{versionOf};
 ghost use Rattle.name_store.specs.Writing as naming;
@@ -18,7 +18,7 @@ ghost use Rattle.name_compare.specs.Comparisons as names;
 ghost use Rattle.os2_compare.specs.Comparisons as fields;
 ghost use Rattle.compare_words.specs.Words.{comparedWords};
 ghost use Rattle.refusal_words.specs.Words.{outcomeRefusal};
-ghost use Rattle.name_words.specs.Words.{textWords, versionWords};
+ghost use Rattle.name_words.specs.Words.{foundWords, textWords, versionWords};
 ghost use Rattle.os2_words.specs.Words.{numberWords, rightsWords, styleWords, opticalWords, writtenWords};
 ghost use Rattle.choice.specs.Ranks.{requestOf};
 ghost use Rattle.chooser.specs.Racks.{held};
@@ -34,6 +34,7 @@ use compare_words::GvCompared;
 use compare_words::name_compared_words;
 use compare_words::os2_compared_words;
 use name_store::Entry;
+use name_words::GvFound;
 use name_words::GvText;
 use name_words::GvVersion;
 use name_words::found_words;
@@ -65,7 +66,7 @@ pub extern "C" fn gv_name_check(table: &[u8]) -> GvRefusal
     verdict_words(name::check(table))
 }
 
-// The string of the record of a 'name' table with these four numbers, and the record's number.
+// The string of the record of a 'name' table with these four numbers, the record's number, and how many records were looked at.
 #[no_mangle]
 pub extern "C" fn gv_name_lookup(
     table: &[u8],
@@ -73,8 +74,8 @@ pub extern "C" fn gv_name_lookup(
     encoding: u32,
     language: u32,
     name: u32,
-) -> GvText
-    ensures { λ r. ⌜ r ≡ textWords (lookupOf (now (table .entry)) (keyFrom platform encoding language name)) ⌝ }
+) -> GvFound
+    ensures { λ r. ⌜ r ≡ foundWords (lookupOf (now (table .entry)) (keyFrom platform encoding language name)) (lookedOf (now (table .entry)) (keyFrom platform encoding language name)) ⌝ }
 {
     found_words(name_lookup::lookup(table, platform, encoding, language, name))
 }

@@ -8,8 +8,7 @@ use Rattle.bigendian.specs.Numbers.{Bytes}
 use Rattle.outcomes.proofs.Tests.{equal}
 use Rattle.name_layout.specs.Keys.{Key, keyOf, packed}
 use Rattle.name_layout.proofs.Keys.{Small, key-small, same-is, same-packed}
-use Rattle.name_search.specs.Searches.{recordNumbered}
-use Rattle.name_search.proofs.Finds.{find-numbered}
+use Rattle.name_search.proofs.Finds.{recordNumbered, find-numbered}
 use Rattle.name_compare.specs.Differences.{keyNumbered, keyCount, whichOf, entryFor, differenceAt}
 
 pub numbered-packed : (k : ℕ) → packed (keyNumbered k) ≡ k

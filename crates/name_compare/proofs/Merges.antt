@@ -14,8 +14,7 @@ use lib.ListN.{length, length-append}
 use Rattle.outcomes.specs.Firsts.{when}
 use Rattle.name_layout.specs.Layout.{count, bytesOf}
 use Rattle.name.proofs.Acceptances.{accepted-framed}
-use Rattle.name_search.specs.Searches.{recordNumbered}
-use Rattle.name_search.proofs.Finds.{ordered}
+use Rattle.name_search.proofs.Finds.{ordered, recordNumbered}
 use Rattle.name_search.proofs.Halvings.{Rising, scan, scan-none, scan-found}
 use Rattle.comparing.specs.Lists.{entryOf, listBelow}
 use Rattle.comparing.proofs.Lists.{no-entry, one-at-most, skip, shorter, whole}

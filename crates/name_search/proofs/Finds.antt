@@ -1,18 +1,17 @@
--- A search finds a record that has the key, in an accepted table the only one; and what the code's numbers find is that record.
+-- A search finds a record that has the key, in an accepted table the only one; and a search by a key's one number finds the same.
 -- Assumes nothing.
 use Prim.Native.Nat.{ℕ, _+_, _-_, _≤_, _<_}
 use mathlib.Core.Path.{_≡_, refl, sym, ap, _∙_}
 use mathlib.Core.Logic.{_↔_}
-use mathlib.Core.Bool.{true, false, false≢true}
-use mathlib.Core.Option.{none, some}
+use mathlib.Core.Option.{Option, none, some}
 use mathlib.Core.List.{List}
-use native.Mathlib.Nat.{suc-le-suc-iff}
 use native.Mathlib.Omega.{arith}
+use lib.Dec.{eqb}
 use lib.ListN.{length, take, drop}
 use Rattle.bigendian.specs.Numbers.{Bytes}
-use Rattle.outcomes.specs.Firsts.{when}
+use Rattle.outcomes.specs.Firsts.{when, firstOf}
 use Rattle.outcomes.proofs.Laws.{when-none, when-some, lowest-exactly, first-all, first-exactly, first-same}
-use Rattle.outcomes.proofs.Tests.{or-false, not-below, fails}
+use Rattle.outcomes.proofs.Tests.{fails}
 use Rattle.name_layout.specs.Layout.{count, bytesOf}
 use Rattle.name_layout.specs.Keys.{Key, keyOf, same, packed}
 use Rattle.name_layout.proofs.Keys.{Small, key-small, same-is, same-packed}
@@ -21,33 +20,16 @@ use Rattle.name.specs.Acceptance.{faults}
 use Rattle.name.proofs.Acceptances.{keys-rise, string-inside}
 use Rattle.name.proofs.Theorems.{acceptable}
 use Rattle.name_search.specs.declared.Text.{Text}
-use Rattle.name_search.specs.Searches.{HasKey, AtMostOne, recordWith, beyond, recordNumbered, StringOf, HasBytes, textOf}
+use Rattle.name_search.specs.Searches.{HasKey, AtMostOne, recordWith, StringOf, HasBytes, textOf}
 use Rattle.name_search.proofs.Halvings.{Rising, rising}
 
 -- the keys of an accepted table rise
 pub ordered : (t : List ℕ) → Bytes t → faults t ≡ none → Rising (λ i. packed (keyOf t i)) (count t)
 ordered t b a = rising _ _ (keys-rise t a b)
 
--- each part of a key is below 65,536, or one is beyond
-pub not-beyond : (k : Key) → (beyond k ≡ false) ↔ Small k
-not-beyond k = (
-  (λ e.
-      let p = or-false _ _ .0 e in
-      let q = or-false _ _ .0 (p .0) in
-      let r = or-false _ _ .0 (q .0) in
-      record {
-        platform = suc-le-suc-iff .1 (not-below 65535 (k .platform) .0 (r .0));
-        encoding = suc-le-suc-iff .1 (not-below 65535 (k .encoding) .0 (r .1));
-        language = suc-le-suc-iff .1 (not-below 65535 (k .language) .0 (q .1));
-        name = suc-le-suc-iff .1 (not-below 65535 (k .name) .0 (p .1));
-      }),
-  λ s.
-      let a = not-below 65535 (k .platform) .1 (omega arith) in
-      let b = not-below 65535 (k .encoding) .1 (omega arith) in
-      let c = not-below 65535 (k .language) .1 (omega arith) in
-      let d = not-below 65535 (k .name) .1 (omega arith) in
-      or-false _ _ .1 (or-false _ _ .1 (or-false _ _ .1 (a, b), c), d),
-)
+-- the record whose key is one number
+unfoldable pub recordNumbered : List ℕ → ℕ → Option ℕ
+recordNumbered t number = firstOf (λ i. when (eqb (packed (keyOf t i)) number) i) (count t)
 
 module _ (t : List ℕ) (k : Key) where
   -- what is found has the key
@@ -77,15 +59,9 @@ module _ (t : List ℕ) (k : Key) where
           earlier = λ j l. when-none _ j .1 (fails _ (same-is (keyOf t j) k) .1 (λ e. omega (arith, ap packed e, ap packed (h .has), ordered t b a j i l (h .inside))));
         })
 
-    -- ---- by the code's numbers
-
     pub find-numbered : Small k → recordNumbered t (packed k) ≡ recordWith t k
     unfolding recordWith recordNumbered
     find-numbered s = first-same _ _ (count t) (λ i l. ap (λ test. when test i) (sym (same-packed (key-small t b i) s)))
-
-    -- a part above 65,535 is in no record
-    pub find-beyond : beyond k ≡ true → recordWith t k ≡ none
-    find-beyond e = find-none .1 (λ i h. false≢true (sym (not-beyond k .1 (rw (h .has) at (key-small t b i))) ∙ e))
 
 pub at-most-one : AtMostOne
 at-most-one t b p k i j h g =

@@ -1,16 +1,15 @@
--- Which record of a table has a key, as a search and as a proposition; and the string of a record, as a value and as a proposition.
+-- Which record of a table has a key, as a search and as a proposition; how many records a search looks at; and the string of a record, as a value and as a proposition.
 use Prim.Native.Nat.{ℕ, _+_, _≤_, _<_}
 use mathlib.Core.Path.{_≡_}
-use mathlib.Core.Bool.{Bool, _||_}
 use mathlib.Core.Option.{Option, none, some}
 use mathlib.Core.List.{List}
-use lib.Dec.{ltb, eqb}
 use lib.ListN.{length, take, drop}
 use Rattle.bigendian.specs.Numbers.{Bytes}
 use Rattle.outcomes.specs.Firsts.{when, firstOf}
 use Rattle.name_layout.specs.Layout.{count, storage, textAt, stringStart, stringLength, bytesOf}
-use Rattle.name_layout.specs.Keys.{Key, keyOf, same, packed}
+use Rattle.name_layout.specs.Keys.{Key, keyOf, same}
 use Rattle.name.specs.Acceptable.{Acceptable}
+use Rattle.name_search.specs.Steps.{looksAmong}
 use Rattle.name_search.specs.declared.Found.{Found}
 use Rattle.name_search.specs.declared.Found.the-variants.{Record, Nothing}
 use Rattle.name_search.specs.declared.Text.{Text}
@@ -33,12 +32,9 @@ abbrev pub foundOf : Found → Option ℕ
 foundOf (Record i) = some i
 foundOf Nothing = none
 
--- in the code: a key of which a part is no 16-bit number, and the record whose key is one number
-abbrev pub beyond : Key → Bool
-beyond k = ltb 65535 (k .platform) || ltb 65535 (k .encoding) || ltb 65535 (k .language) || ltb 65535 (k .name)
-
-unfoldable pub recordNumbered : List ℕ → ℕ → Option ℕ
-recordNumbered t number = firstOf (λ i. when (eqb (packed (keyOf t i)) number) i) (count t)
+-- document 02, Ask 8: how many of a table's records a search for the key looks at
+unfoldable pub looksFor : List ℕ → Key → ℕ
+looksFor t k = looksAmong (keyOf t) k (count t)
 
 -- x is the string of record i: "the string's start, from the table's first byte, and its length"; document 02, Ask 4: and "the record's number"
 pub record StringOf (t : List ℕ) (i : ℕ) (x : Text) : Type 0 where

@@ -12,9 +12,27 @@ use Rattle.version_text.proofs.Rules.{refused-25}
 use Rattle.name_search.specs.declared.Text.{Text}
 use Rattle.name_answers.specs.Versions.{Reading, readFrom}
 use Rattle.refusal_words.proofs.ReadBack.{said, Numbered, back-unless}
+use Rattle.name_words.specs.declared.GvFound.{GvFound}
 use Rattle.name_words.specs.declared.GvText.{GvText}
 use Rattle.name_words.specs.declared.GvVersion.{GvVersion}
-use Rattle.name_words.specs.Words.{textWords, versionWords}
+use Rattle.name_words.specs.Words.{foundWords, textWords, versionWords}
+
+-- ---- what a lookup found, and how many records it looked at
+
+abbrev foundIn : GvFound → Text
+foundIn w = record { start = w .start; len = w .length; «record» = w .«record» }
+
+abbrev pub foundSaid : GvFound → Outcome Text
+foundSaid w = said (w .refusal) (foundIn w)
+
+pub found-back : (n : ℕ) (r : Option Refusal) (o : Outcome Text) → Only Numbered r → foundSaid (foundWords o n) ≡ o → foundSaid (foundWords (unless r o) n) ≡ unless r o
+unfolding foundWords
+found-back n r o p h = back-unless (λ x. foundWords x n) (λ w. w .refusal) foundIn (λ m c. refl) r o p h
+
+pub looked-back : (o : Outcome Text) (n : ℕ) → foundWords o n .looked ≡ n
+unfolding foundWords
+looked-back (refused m c) n = refl
+looked-back (answered x) n = refl
 
 -- ---- a string
 

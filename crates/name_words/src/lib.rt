@@ -1,5 +1,6 @@
 // The answers on a 'name' table in the words of C: a string, a version number, and the check's verdict.
-// Document 01, the check of a 'name' table, lookup, and "PostScript name and version number"; document 02, Ask 4; `gv_text` and `gv_version` in `include/gyalvindor.h`.
+// Document 01, the check of a 'name' table, lookup, and "PostScript name and version number"; document 02, Asks 4 and 8; `gv_found`, `gv_text` and `gv_version` in
+// `include/gyalvindor.h`.
 // Relies on `refusal_words` for a refusal's words, and on `name`, `name_lookup` and `name_answers` for what an answer says.
 ghost use mathlib.Core.Path.{_≡_};
 ghost use Rattle.name.specs.Refusals.{saidCheck};
@@ -7,7 +8,7 @@ ghost use Rattle.name_lookup.specs.Answers.{saidLookup};
 ghost use Rattle.name_answers.specs.Names.{saidName};
 ghost use Rattle.name_answers.specs.Versions.{saidVersion};
 ghost use Rattle.refusal_words.specs.Words.{outcomeRefusal};
-ghost use Rattle.name_words.specs.Words.{textWords, versionWords};
+ghost use Rattle.name_words.specs.Words.{foundWords, textWords, versionWords};
 use name::Verdict;
 use name_answers::PostscriptAnswer;
 use name_answers::VersionAnswer;
@@ -17,7 +18,31 @@ use refusal_words::GvRefusal;
 use refusal_words::NO_REFUSAL;
 use refusal_words::told_words;
 
-// The answer of a lookup and of the PostScript question: the string's start and length, and the number of its record.
+// The answer of a lookup: the string's start and length, the number of its record, and how many records were looked at, found or not.
+#[repr(C)]
+pub struct GvFound {
+    pub refusal: GvRefusal,
+    pub start: usize,
+    pub length: usize,
+    pub record: usize,
+    pub looked: usize,
+}
+
+impl GvFound {
+    fn new(refusal: GvRefusal, start: usize, len: usize, number: usize, looked: usize) -> GvFound
+        ensures { λ r. ⌜ r ≡ record { refusal = refusal; start = start; length = len; «record» = number; looked = looked } ⌝ }
+    {
+        GvFound {
+            refusal,
+            start,
+            length: len,
+            record: number,
+            looked,
+        }
+    }
+}
+
+// The answer of the PostScript question: the string's start and length, and the number of its record.
 #[repr(C)]
 pub struct GvText {
     pub refusal: GvRefusal,
@@ -72,13 +97,14 @@ pub fn verdict_words(verdict: Verdict) -> GvRefusal
 }
 
 // What a lookup says.
-pub fn found_words(found: LookedUp) -> GvText
-    ensures { λ r. ⌜ r ≡ textWords (saidLookup found) ⌝ }
+pub fn found_words(found: LookedUp) -> GvFound
+    ensures { λ r. ⌜ r ≡ foundWords (saidLookup found) (found .looked) ⌝ }
 {
     let answer = found.answer;
+    let looked = found.looked;
     match answer {
-        Answer::Found(text) => GvText::new(NO_REFUSAL, text.start, text.len, text.record),
-        Answer::Refused(why) => GvText::new(told_words(why.told()), 0, 0, 0),
+        Answer::Found(text) => GvFound::new(NO_REFUSAL, text.start, text.len, text.record, looked),
+        Answer::Refused(why) => GvFound::new(told_words(why.told()), 0, 0, 0, looked),
     }
 }
 

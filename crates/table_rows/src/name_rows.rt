@@ -35,7 +35,7 @@ fn ask(question: &[u8], table: &[u8]) {
     }
 }
 
-// The string that has the four numbers of a line.
+// The string that has the four numbers of a line, and how many records were looked at.
 fn look_up(question: &[u8], table: &[u8]) {
     let platform = number(question, 1);
     let encoding = number(question, 2);
@@ -43,10 +43,12 @@ fn look_up(question: &[u8], table: &[u8]) {
     let name = number(question, 4);
     let looked_up = name_lookup::lookup(table, platform, encoding, language, name);
     let found = looked_up.answer;
+    let looked = looked_up.looked;
     match found {
         Answer::Found(x) => string(x),
         Answer::Refused(why) => refused(why.told()),
     }
+    numbered(b" looked ", looked as u64);
 }
 
 fn verdict(found: Verdict) {

@@ -4,6 +4,7 @@ use std::fmt::Display;
 use std::panic::{self, AssertUnwindSafe};
 
 use crate::faults::{self, Front, Refused};
+use crate::looked;
 use crate::met::{self, Thing};
 use crate::numbers::Numbers;
 use crate::pair::Marks;
@@ -86,10 +87,12 @@ impl Asker {
         match (read, Front::of(table)) {
             (Some(refused), _) => {
                 met(Thing::Passed(function, refused.0));
-                met::of_refused(table, function, refused, &mut met);
+                met::of_refused(table, question, refused, &mut met);
             }
             (None, Ok(front)) => {
-                if let Some(said) = records::against(&front, question, words) {
+                let said = records::against(&front, question, words)
+                    .or_else(|| looked::against(&front, question, words));
+                if let Some(said) = said {
                     return Err(otherwise(&question, function, words, &said));
                 }
                 met::of_answer(&front, question, words, &mut met);
@@ -238,8 +241,40 @@ impl Asker {
                         near[part] = numbers.pick(&near_parts(key[part]));
                         self.ask_name(table, Question::Lookup(near), read)?;
                     }
+                    self.on_the_way(table, &keys, read, numbers)?;
                 }
             }
+        }
+        Ok(())
+    }
+
+    /// Looks up, in an accepted table, the keys of the records that document 02's Ask 8 looks at on a way taken at random, so one
+    /// for each count; a key beside the last of them; and for each part a key that has a number above 65,535 there.
+    fn on_the_way(
+        &mut self,
+        table: &[u8],
+        keys: &[[u32; 4]],
+        read: Option<Refused>,
+        numbers: &mut Numbers,
+    ) -> Result<(), Difference> {
+        let (mut low, mut high) = (0, keys.len());
+        let mut beside = [0; 4];
+        while low < high {
+            let half = (low + high) / 2;
+            self.ask_name(table, Question::Lookup(keys[half]), read)?;
+            beside = keys[half];
+            if numbers.chance(1, 2) {
+                (low, beside[3]) = (half + 1, beside[3] + 1);
+            } else {
+                (high, beside[3]) = (half, beside[3].saturating_sub(1));
+            }
+        }
+        self.ask_name(table, Question::Lookup(beside), read)?;
+        for part in 0..4 {
+            let mut key = numbers.pick(keys);
+            let more = 65_536 + numbers.below((u32::MAX - 65_536) as usize) as u32;
+            key[part] = numbers.pick(&[65_536, key[part] + 65_536, more, u32::MAX]);
+            self.ask_name(table, Question::Lookup(key), read)?;
         }
         Ok(())
     }

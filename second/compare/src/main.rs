@@ -13,6 +13,9 @@ mod entries;
 mod faults;
 mod fonts;
 mod lists;
+mod looked;
+mod looked_met;
+mod looked_sweeps;
 mod make;
 mod met;
 mod numbers;
@@ -51,7 +54,7 @@ use tally::Tally;
 
 const USAGE: &str = "usage: compare [OPTION]... [FOLDER]...
 Compares the archive and the Rust crate over it with the second program on the rows of document 01 and of document 02's Asks 1
-to 7, in sweeps over the places that the rules look at, on tables and calls made at random, and on the fonts under the folders.
+to 8, in sweeps over the places that the rules look at, on tables and calls made at random, and on the fonts under the folders.
 Without folders: the fonts installed on the machine.
 
   --rows, --sweeps, --random, --fonts
@@ -80,7 +83,8 @@ macro_rules! say {
 const LONG: u64 = 100_000;
 /// How often each table of a font is damaged.
 const DAMAGED: u64 = 50;
-/// With one of so many 'name' tables made at random, two of 5,460 records are compared, and the first of them is asked about.
+/// With one of so many 'name' tables made at random, two of 5,460 records are compared, and the first of them and one of 5,459
+/// are asked about.
 const LARGEST: usize = 2_000;
 
 /// What the program is told to do.
@@ -312,6 +316,7 @@ fn sweeps_over(task: &Task) -> Result<Tally, Stop> {
     let groups = sweeps::SWEEPS
         .into_iter()
         .chain(record_sweeps::SWEEPS)
+        .chain(looked_sweeps::SWEEPS)
         .chain(pair_sweeps::SWEEPS)
         .chain(write_sweeps::SWEEPS)
         .chain(choose_sweeps::SWEEPS);
@@ -365,7 +370,7 @@ fn at_random(task: &Task) -> Result<Tally, Stop> {
     }
     if missing.is_empty() {
         say!(
-            "at random: every refusal, rule, field that does not fit, kind of answer, setting of the rights bits and thing of a comparison, of a record, of an answer, of a table to write and of the chooser was met"
+            "at random: every refusal, rule, field that does not fit, kind of answer, setting of the rights bits and thing of a comparison, of a record, of an answer, of a lookup's count, of a table to write and of the chooser was met"
         );
     } else {
         say!(
@@ -380,7 +385,8 @@ fn at_random(task: &Task) -> Result<Tally, Stop> {
 type Numbered = Option<(u64, Vec<u8>)>;
 
 /// What is asked beside a table made at random. The pairs in which it is compared, and with what: the table and a partner made
-/// from it, the table of its kind before it and the table, and with some tables one of 5,460 records alone and two of them.
+/// from it, the table of its kind before it and the table, and with some tables one of 5,460 records alone, two of them, and one
+/// of 5,459.
 /// With 48 numbers to write, a list of entries and calls of the chooser. `before` holds the last 'name' and 'OS/2' table.
 fn beside(
     task: &Task,
@@ -431,6 +437,8 @@ fn beside(
         let (left, right) = partner::largest(numbers);
         pairs.push(("with one of 5,460 records", Made::Name(left.clone())));
         pairs.push(("with two of 5,460 records", Made::NamePair(left, right)));
+        let fewer = make::name_of(numbers, 5_459);
+        pairs.push(("with one of 5,459 records", Made::Name(fewer)));
     }
     pairs
 }

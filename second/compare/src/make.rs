@@ -1,6 +1,6 @@
 //! Makes tables at random: valid ones, ones with a fault at an edge, ones cut short.
 //!
-//! The makers know the rules of document 01 and of document 02's Asks 1 to 4 only to come near their edges. Whether a table is
+//! The makers know the rules of document 01 and of document 02's Asks 1 to 4 and 8 only to come near their edges. Whether a table is
 //! right is for the compared programs. Lists of entries to write and calls of the chooser are made in files of their own.
 
 use second::os2::{size, FIELDS};
@@ -150,6 +150,44 @@ pub fn name_with(n: &mut Numbers, mut strings: Vec<(Key, Vec<u8>)>, faults: usiz
     };
     plan.start = (plan.front() + plan.gap.len()) as u16;
     with_faults(n, plan, faults)
+}
+
+/// An accepted table with so many records, of either format. Some parts of the keys rise from record to record, and the others
+/// are the same in all of them; between two keys there is often room for another.
+pub fn name_of(n: &mut Numbers, count: usize) -> Vec<u8> {
+    let parts = n.pick(&[&[3][..], &[0], &[2, 3], &[0, 1, 2, 3], &[1, 3], &[0, 2]]);
+    let steps = (1..)
+        .find(|steps: &usize| steps.pow(parts.len() as u32) >= count)
+        .unwrap_or(count);
+    let apart = 1 + n.below(3);
+    let records = (0..count).map(|number| {
+        let mut key = [3, 1, 0x409, 1];
+        let mut place = number;
+        for &part in parts.iter().rev() {
+            key[part] = (apart * (place % steps)) as u16;
+            place /= steps;
+        }
+        Record {
+            key,
+            length: 0,
+            offset: 0,
+        }
+    });
+    let records = records.collect();
+    let tagged = n.chance(1, 2);
+    let mut plan = Plan {
+        format: u16::from(tagged),
+        count: count as u16,
+        start: 0,
+        records,
+        tagged,
+        tag_count: 0,
+        tags: Vec::new(),
+        gap: Vec::new(),
+        storage: Vec::new(),
+    };
+    plan.start = plan.front() as u16;
+    plan.bytes()
 }
 
 /// The bytes of a plan after so many faults.
@@ -342,9 +380,11 @@ fn keys(n: &mut Numbers, tagged: bool, tags: usize) -> Vec<Key> {
         0 => 5_456 + n.below(8),
         1..=40 => n.below(300),
         41..=500 => 0,
+        // As many as a lookup needs some more steps for.
+        501..=504 => n.pick(&[600, 1_200, 2_400]) + n.below(800),
         _ => n.below(5),
     };
-    if more > 1000 {
+    if more > 5_000 {
         // So many that the storage just can, or can't, start after them.
         keys.clear();
         keys.extend((0..more).map(|place| [3, 1, (place / 64) as u16, (place % 64) as u16]));

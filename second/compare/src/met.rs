@@ -1,5 +1,6 @@
 //! What comparisons of two tables, questions on 'name' tables, the writer of 'name' tables and the chooser have met. A long run
-//! at random has to meet every one of these things. Those of the writer and those of the chooser are in files of their own.
+//! at random has to meet every one of these things. Those of the records that lookups look at, those of the writer and those of
+//! the chooser are in files of their own.
 
 use std::collections::BTreeMap;
 use std::fmt;
@@ -10,6 +11,7 @@ use second::{compare, name, os2};
 use crate::ask::word;
 use crate::choose_met;
 use crate::faults::{self, Front, Place, Record, Refused};
+use crate::looked_met;
 use crate::pair::{Of, Pair, LEVELS_ABOVE};
 use crate::question::{Function, Question, Words};
 use crate::records::{POSTSCRIPT, VERSION};
@@ -210,7 +212,7 @@ pub const FOUND_NUMBERS: [usize; 3] = [255, 256, MOST_RECORDS - 1];
 const TELLING: [Function; 3] = [Function::Lookup, Function::PostScript, Function::Version];
 /// The refusals of a table, each with the formats of the tables that it is met with; it has none where the table is too short or
 /// its format is another.
-const OF_TABLES: [(u32, &[Option<u16>]); 11] = [
+pub const OF_TABLES: [(u32, &[Option<u16>]); 11] = [
     (10, &[None]),
     (11, &[None]),
     (12, &[Some(0), Some(1)]),
@@ -343,6 +345,8 @@ pub enum Thing {
     OnePresent(u16, usize),
     /// In a table of this format a version number is refused by 25 because of this record, which is not record 0.
     NoNumber(u16, Used),
+    /// A lookup met this of the records that it looked at.
+    Looked(looked_met::Thing),
     /// The writer of 'name' tables met this.
     Write(write_met::Thing),
     /// The chooser met this.
@@ -526,6 +530,7 @@ impl fmt::Display for Thing {
                     "{title}: format {format}, no record beside 25 of {words}"
                 )
             }
+            Thing::Looked(thing) => thing.fmt(f),
             Thing::Write(thing) => thing.fmt(f),
             Thing::Choose(thing) => thing.fmt(f),
         }
@@ -541,7 +546,7 @@ fn beside(behind: bool) -> &'static str {
 }
 
 /// The words for the parts of a key.
-const PARTS: [&str; 4] = ["platform", "encoding", "language", "name"];
+pub const PARTS: [&str; 4] = ["platform", "encoding", "language", "name"];
 
 /// All things that a long run has to meet.
 pub fn all() -> Vec<Thing> {
@@ -606,6 +611,7 @@ pub fn all() -> Vec<Thing> {
     ]);
     of_records(&mut things);
     of_answers(&mut things);
+    things.extend(looked_met::all().into_iter().map(Thing::Looked));
     things.extend(write_met::all().into_iter().map(Thing::Write));
     things.extend(choose_met::all().into_iter().map(Thing::Choose));
     things
@@ -822,29 +828,42 @@ pub fn of_name(table: &[u8], met: &mut dyn FnMut(Thing)) {
     }
 }
 
-/// Tells what a question on a refused 'name' table is met by: no record is told.
+/// The format of a table that is refused by this number, if it has one.
+pub fn format_of(table: &[u8], number: u32) -> Option<u16> {
+    match number {
+        10 | 11 => None,
+        _ => Some(word(table, 0) as u16),
+    }
+}
+
+/// Tells what a question on a refused 'name' table is met by: no record is told, and none is looked at.
 pub fn of_refused(
     table: &[u8],
-    function: Function,
+    question: Question,
     (number, place): Refused,
     met: &mut dyn FnMut(Thing),
 ) {
+    let function = question.function();
     // The record at fault is not record 0, so that its number would show.
     let record_0 = OF_RECORDS.contains(&number) && place == Some(0);
     if TELLING.contains(&function) && !record_0 {
-        let format = match number {
-            10 | 11 => None,
-            _ => Some(word(table, 0) as u16),
-        };
-        met(Thing::NoRecord(function, number, format));
+        met(Thing::NoRecord(function, number, format_of(table, number)));
+    }
+    if let Question::Lookup(key) = question {
+        looked_met::of_refused(table, key, (number, place), &mut |thing| {
+            met(Thing::Looked(thing));
+        });
     }
 }
 
 /// Tells what an answer, or a refusal of what is asked, on an accepted 'name' table is met by. The table is read here; of the
-/// words, the number and the record count.
+/// words, the number, the record and how many records were looked at count.
 pub fn of_answer(front: &Front, question: Question, words: Words, met: &mut dyn FnMut(Thing)) {
     let format = u16::from(front.tagged);
     let number = words[0] as u32;
+    if let Question::Lookup(key) = question {
+        looked_met::of_lookup(front, key, words, &mut |thing| met(Thing::Looked(thing)));
+    }
     match question {
         Question::Lookup(_) if number == 0 => of_found(front, words[5] as usize, met),
         Question::Lookup(key) => {

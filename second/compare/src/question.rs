@@ -6,6 +6,9 @@ use std::fmt;
 /// refusal in the header's order. Members that an answer does not have are 0. A float is its 32 bits.
 pub type Words = [u64; 7];
 
+/// The place of the word that says how many records a lookup looked at. It may be above 0 beside a refusal by 20 too.
+pub const LOOKED: usize = 6;
+
 /// A question on a table, with its level and its number or key.
 #[derive(Clone, Copy, Debug)]
 pub enum Question {
@@ -110,7 +113,8 @@ impl Function {
             | Function::RackEmpty
             | Function::RackLoad
             | Function::RackUnload => &[],
-            Function::Lookup | Function::PostScript => &["start", "length", "record"],
+            Function::Lookup => &["start", "length", "record", "looked"],
+            Function::PostScript => &["start", "length", "record"],
             Function::Version => &["major", "minor", "record"],
             Function::Field
             | Function::SelectionBit

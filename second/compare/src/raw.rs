@@ -20,6 +20,16 @@ struct Text {
     record: usize,
 }
 
+/// What a lookup answers.
+#[repr(C)]
+struct Found {
+    refusal: Refusal,
+    start: usize,
+    length: usize,
+    record: usize,
+    looked: usize,
+}
+
 #[repr(C)]
 struct Version {
     refusal: Refusal,
@@ -127,7 +137,7 @@ const _: () = assert!(size_of::<Entry>() == 8 + 2 * size_of::<usize>());
 
 extern "C" {
     fn gv_name_check(table: *const u8, length: usize) -> Refusal;
-    fn gv_name_lookup(table: *const u8, length: usize, p: u32, e: u32, l: u32, n: u32) -> Text;
+    fn gv_name_lookup(table: *const u8, length: usize, p: u32, e: u32, l: u32, n: u32) -> Found;
     fn gv_name_postscript(table: *const u8, length: usize) -> Text;
     fn gv_name_version(table: *const u8, length: usize) -> Version;
     fn gv_os2_check(table: *const u8, length: usize, level: u32) -> Refusal;
@@ -215,6 +225,11 @@ fn text(t: Text) -> Words {
     with(refusal, [start as u64, length as u64, record as u64, 0])
 }
 
+fn found(f: Found) -> Words {
+    let members = [f.start, f.length, f.record, f.looked];
+    with(f.refusal, members.map(|member| member as u64))
+}
+
 fn number(n: Number) -> Words {
     with(n.refusal, [u64::from(n.kind), n.value as u64, 0, 0])
 }
@@ -227,7 +242,7 @@ pub fn words(table: &[u8], question: Question) -> Words {
     unsafe {
         match question {
             Question::NameCheck => bare(gv_name_check(bytes, length)),
-            Question::Lookup([p, e, l, n]) => text(gv_name_lookup(bytes, length, p, e, l, n)),
+            Question::Lookup([p, e, l, n]) => found(gv_name_lookup(bytes, length, p, e, l, n)),
             Question::PostScript => text(gv_name_postscript(bytes, length)),
             Question::Version => {
                 let v = gv_name_version(bytes, length);

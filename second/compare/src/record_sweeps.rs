@@ -20,7 +20,7 @@ const POSTSCRIPT_TWO: Key = [3, 1, 0x409, 6];
 
 /// A table of either format with these keys, lengths and offsets, and this storage; in format 1 with a tag where there is room
 /// for one.
-fn laid_out(tagged: bool, records: &[(Key, [u16; 2])], storage: &[u8]) -> Made {
+pub fn laid_out(tagged: bool, records: &[(Key, [u16; 2])], storage: &[u8]) -> Made {
     let mut words = vec![u16::from(tagged), records.len() as u16, 0];
     for (key, string) in records {
         words.extend(key);

@@ -2,7 +2,7 @@
 //! Ask 4, and asks none of the sides.
 
 use crate::faults::Front;
-use crate::question::{Question, Words};
+use crate::question::{Question, Words, LOOKED};
 
 /// The records of a PostScript name. The answer tells the first.
 pub const POSTSCRIPT: [[u32; 4]; 2] = [[1, 0, 0, 6], [3, 1, 0x409, 6]];
@@ -10,8 +10,13 @@ pub const POSTSCRIPT: [[u32; 4]; 2] = [[1, 0, 0, 6], [3, 1, 0x409, 6]];
 pub const VERSION: [[u32; 4]; 2] = [[3, 1, 0x409, 5], [1, 0, 0, 5]];
 
 /// What the table's bytes have against an answer, or a refusal of what is asked, on an accepted table; nothing where they bear it
-/// out.
-pub fn against(front: &Front, question: Question, words: Words) -> Option<String> {
+/// out. How many records a lookup looked at is not judged here.
+pub fn against(front: &Front, question: Question, mut words: Words) -> Option<String> {
+    match question {
+        Question::Lookup(_) => words[LOOKED] = 0,
+        _ if words[LOOKED] != 0 => return Some("only a lookup says more".to_string()),
+        _ => {}
+    }
     match words[0] {
         0 => against_answer(front, question, words),
         number => {

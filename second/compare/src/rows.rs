@@ -1,11 +1,11 @@
 //! The papers' rows on one table: document 01's "Examples to check against" and "Easy slips", each with the answer that stands
-//! there or that Asks 3 and 4 put in its place, and rows of document 02's Asks 1, 3 and 4, each with the answers that follow from
-//! its words.
+//! there or that Asks 3, 4 and 8 put in its place, and rows of document 02's Asks 1, 3, 4 and 8, each with the answers that follow
+//! from its words.
 
 use crate::ask::{Amount, Asker, Difference};
 use crate::make::Made;
 use crate::numbers::Numbers;
-use crate::question::{shown, Question, Words};
+use crate::question::{shown, Question, Words, LOOKED};
 
 /// A row: its words, its table, and the answers that the papers give.
 pub struct Row {
@@ -78,6 +78,12 @@ fn told(first: u64, second: u64, record: u64) -> Words {
     [0, 0, 0, first, second, record, 0]
 }
 
+/// The words of a lookup that looked at so many records.
+fn after(looked: u64, mut words: Words) -> Words {
+    words[LOOKED] = looked;
+    words
+}
+
 fn value(value: u64) -> Words {
     [0, 0, 0, 1, value, 0, 0]
 }
@@ -141,7 +147,7 @@ fn postscript(text: &str) -> Vec<u8> {
     )
 }
 
-/// The rows of document 01 in its order, then those of document 02's Ask 1, of its Ask 3 and of its Ask 4.
+/// The rows of document 01 in its order, then those of document 02's Ask 1, of its Ask 3, of its Ask 4 and of its Ask 8.
 pub fn rows() -> Vec<Row> {
     let mut rows = Vec::new();
     let mut row = |words: &'static str, table: Vec<u8>, answers: Vec<(Question, Words)>| {
@@ -235,7 +241,7 @@ pub fn rows() -> Vec<Row> {
         name(&[[1, 0, 0, 1, 1, 0], [1, 0, 0, 2, 2, 1]], b"abc"),
         vec![
             (Question::NameCheck, ACCEPTED),
-            (Question::Lookup([1, 0, 0, 2]), told(31, 2, 1)),
+            (Question::Lookup([1, 0, 0, 2]), after(1, told(31, 2, 1))),
         ],
     );
     row(
@@ -263,8 +269,8 @@ pub fn rows() -> Vec<Row> {
             (Question::NameCheck, ACCEPTED),
             (Question::PostScript, told(30, 2, 0)),
             (Question::Version, refused(20)),
-            (Question::Lookup([1, 0, 0, 6]), told(30, 2, 0)),
-            (Question::Lookup([3, 1, 1033, 6]), told(32, 4, 1)),
+            (Question::Lookup([1, 0, 0, 6]), after(2, told(30, 2, 0))),
+            (Question::Lookup([3, 1, 1033, 6]), after(1, told(32, 4, 1))),
         ],
     );
     row(
@@ -381,6 +387,7 @@ pub fn rows() -> Vec<Row> {
         row(words, table, answers);
     }
     rows.extend(answer_rows());
+    rows.extend(looked_rows());
     rows
 }
 
@@ -554,15 +561,15 @@ fn answer_rows() -> Vec<Row> {
             (Question::NameCheck, ACCEPTED),
             (Question::PostScript, told(start + 5, 2, 2)),
             (Question::Version, told(3, 4, 3)),
-            (lookup(0, 3, 0, 6), told(start, 2, 0)),
-            (lookup(1, 0, 0, 5), told(start + 2, 3, 1)),
-            (lookup(1, 0, 0, 6), told(start + 5, 2, 2)),
-            (lookup(3, 1, 1033, 5), told(start + 7, 6, 3)),
-            (lookup(3, 1, 1033, 6), told(start + 13, 4, 4)),
-            (lookup(3, 1, 1033, 7), told(start + 17, 0, 5)),
-            (lookup(3, 1, 1033, 4), refused(20)),
-            (lookup(1, 0, 0, 7), refused(20)),
-            (lookup(3, 1, 1033, 65_536 + 6), refused(20)),
+            (lookup(0, 3, 0, 6), after(3, told(start, 2, 0))),
+            (lookup(1, 0, 0, 5), after(2, told(start + 2, 3, 1))),
+            (lookup(1, 0, 0, 6), after(3, told(start + 5, 2, 2))),
+            (lookup(3, 1, 1033, 5), after(1, told(start + 7, 6, 3))),
+            (lookup(3, 1, 1033, 6), after(3, told(start + 13, 4, 4))),
+            (lookup(3, 1, 1033, 7), after(2, told(start + 17, 0, 5))),
+            (lookup(3, 1, 1033, 4), after(3, refused(20))),
+            (lookup(1, 0, 0, 7), after(3, refused(20))),
+            (lookup(3, 1, 1033, 65_536 + 6), after(2, refused(20))),
         ]
     };
     let mut rows = Vec::new();
@@ -611,9 +618,9 @@ fn answer_rows() -> Vec<Row> {
             b".Ab",
         ),
         vec![
-            (lookup(1, 0, 0, 1), told(43, 2, 0)),
-            (lookup(1, 0, 0, 4), told(43, 2, 1)),
-            (lookup(1, 0, 0, 16), told(43, 2, 2)),
+            (lookup(1, 0, 0, 1), after(2, told(43, 2, 0))),
+            (lookup(1, 0, 0, 4), after(1, told(43, 2, 1))),
+            (lookup(1, 0, 0, 16), after(2, told(43, 2, 2))),
         ],
     );
     row(
@@ -628,8 +635,8 @@ fn answer_rows() -> Vec<Row> {
         ),
         vec![
             (Question::PostScript, told(43, 1, 1)),
-            (lookup(0, 3, 0, 6), told(42, 2, 0)),
-            (lookup(3, 1, 1033, 6), told(42, 2, 2)),
+            (lookup(0, 3, 0, 6), after(2, told(42, 2, 0))),
+            (lookup(3, 1, 1033, 6), after(2, told(42, 2, 2))),
         ],
     );
     row(
@@ -645,12 +652,12 @@ fn answer_rows() -> Vec<Row> {
             b"x",
         ),
         vec![
-            (lookup(1, 0, 0, 5), told(66, 1, 0)),
-            (lookup(1, 0, 0, 6), told(66, 1, 1)),
-            (lookup(1, 0, 1, 6), told(66, 1, 2)),
-            (lookup(1, 1, 1, 6), told(66, 1, 3)),
-            (lookup(3, 1, 1, 6), told(66, 1, 4)),
-            (lookup(3, 1, 1, 5), refused(20)),
+            (lookup(1, 0, 0, 5), after(3, told(66, 1, 0))),
+            (lookup(1, 0, 0, 6), after(2, told(66, 1, 1))),
+            (lookup(1, 0, 1, 6), after(1, told(66, 1, 2))),
+            (lookup(1, 1, 1, 6), after(3, told(66, 1, 3))),
+            (lookup(3, 1, 1, 6), after(2, told(66, 1, 4))),
+            (lookup(3, 1, 1, 5), after(3, refused(20))),
             (Question::PostScript, refused(22)),
             (Question::Version, refused(25)),
         ],
@@ -694,14 +701,216 @@ fn answer_rows() -> Vec<Row> {
         "Ask 4: 5,460 records",
         name(&most, b"0123456789"),
         vec![
-            (lookup(3, 1, 1033, 0), told(65_526, 1, 0)),
-            (lookup(3, 1, 1033, 255), told(65_531, 1, 255)),
-            (lookup(3, 1, 1033, 256), told(65_532, 1, 256)),
-            (lookup(3, 1, 1033, 2_733), told(65_529, 1, 2_733)),
-            (lookup(3, 1, 1033, 5_459), told(65_535, 1, 5_459)),
-            (lookup(3, 1, 1033, 5_460), refused(20)),
+            (lookup(3, 1, 1033, 0), after(13, told(65_526, 1, 0))),
+            (lookup(3, 1, 1033, 255), after(12, told(65_531, 1, 255))),
+            (lookup(3, 1, 1033, 256), after(6, told(65_532, 1, 256))),
+            (lookup(3, 1, 1033, 2_733), after(11, told(65_529, 1, 2_733))),
+            (lookup(3, 1, 1033, 5_459), after(12, told(65_535, 1, 5_459))),
+            (lookup(3, 1, 1033, 5_460), after(12, refused(20))),
             (Question::PostScript, refused(22)),
             (Question::Version, refused(25)),
+        ],
+    );
+    rows
+}
+
+/// Ask 8: "Between a low number (included, at first 0) and a high one (excluded, at first the count), look at half their sum rounded
+/// down; equal ends it, a smaller key moves low to one past, a larger key moves high to there; it ends when low meets high." What
+/// is looked at was worked out by hand.
+fn looked_rows() -> Vec<Row> {
+    let mut rows = Vec::new();
+    let mut row = |words, table, answers| {
+        rows.push(Row {
+            words,
+            table,
+            answers,
+        });
+    };
+    let missing = |looked| after(looked, refused(20));
+    // The counts for the keys of so many records and between them, which are from below the first to above the last in turn. The
+    // records are those of the names 1, 3, 5 and so on.
+    let tables: [(&str, &[u64]); 7] = [
+        ("Ask 8: no records, none looked at", &[0]),
+        ("Ask 8: one record, looked at for every key", &[1, 1, 1]),
+        ("Ask 8: two records, record 1 first", &[2, 2, 2, 1, 1]),
+        (
+            "Ask 8: three records, record 1 first",
+            &[2, 2, 2, 1, 2, 2, 2],
+        ),
+        (
+            "Ask 8: four records, 2 first, then 1 or 3",
+            &[3, 3, 3, 2, 2, 1, 2, 2, 2],
+        ),
+        (
+            "Ask 8: seven records, 3 first, then 1 or 5",
+            &[3, 3, 3, 2, 3, 3, 3, 1, 3, 3, 3, 2, 3, 3, 3],
+        ),
+        (
+            "Ask 8: eight records, 4 first, then 2 or 6",
+            &[4, 4, 4, 3, 3, 2, 3, 3, 3, 1, 3, 3, 3, 2, 3, 3, 3],
+        ),
+    ];
+    for (words, counts) in tables {
+        let count = counts.len() / 2;
+        let records: Vec<_> = (0..count as u16)
+            .map(|number| [3, 1, 0x409, 2 * number + 1, 0, 0])
+            .collect();
+        let format_0 = name(&records, b"");
+        let mut format_1 = format_0.clone();
+        let front = format_1.len();
+        format_1.extend([0, 0]);
+        (format_1[1], format_1[5]) = (1, front as u8 + 2);
+        for table in [format_0, format_1] {
+            let start = table.len() as u64;
+            let mut answers: Vec<_> = counts
+                .iter()
+                .enumerate()
+                .map(|(place, &looked)| {
+                    let answer = match place % 2 {
+                        1 => told(start, 0, place as u64 / 2),
+                        _ => refused(20),
+                    };
+                    let key = [3, 1, 0x409, place as u32];
+                    (Question::Lookup(key), after(looked, answer))
+                })
+                .collect();
+            // Below the first and above the last by each part.
+            let (below, above) = (missing(counts[0]), missing(counts[2 * count]));
+            for part in 0..3 {
+                let mut key = [3, 1, 0x409, 5];
+                key[part] -= 1;
+                answers.push((Question::Lookup(key), below));
+                for number in [3 + 0x409, 65_536, u32::MAX] {
+                    key[part] = number;
+                    answers.push((Question::Lookup(key), above));
+                }
+            }
+            for number in [65_536, 65_537, u32::MAX] {
+                answers.push((Question::Lookup([3, 1, 0x409, number]), above));
+            }
+            row(words, table, answers);
+        }
+    }
+
+    // Of five records number 2 comes first, then 1 or 4, then 0 or 3.
+    let five = [
+        [1, 1, 1, 1, 0, 0],
+        [1, 1, 1, 2, 0, 0],
+        [1, 1, 2, 1, 0, 0],
+        [1, 2, 1, 1, 0, 0],
+        [2, 1, 1, 1, 0, 0],
+    ];
+    let mut answers = Vec::new();
+    for above in [65_536, 65_537, u32::MAX] {
+        for (key, looked) in [
+            ([1, 1, 1, above], 2),
+            ([1, 1, above, 1], 3),
+            ([1, above, 1, 1], 3),
+            ([above, 1, 1, 1], 2),
+            ([0, above, above, above], 3),
+            ([1, 0, above, above], 3),
+            ([1, 1, 0, above], 3),
+            ([1, 2, above, above], 3),
+            ([2, above, 0, 0], 2),
+        ] {
+            answers.push((Question::Lookup(key), missing(looked)));
+        }
+    }
+    row(
+        "Ask 8: five records, and a part above 65,535 in each place",
+        name(&five, b""),
+        answers,
+    );
+
+    // Record 1 of three has 65,535 in each place in turn; a number above that is not equal to it, and is above it.
+    for part in 0..4 {
+        let mut one = [240, 5, 5, 5, 0, 0];
+        one[part] = 65_535;
+        let two = match part {
+            0 => [65_535, 6, 0, 0, 0, 0],
+            _ => [241, 0, 0, 0, 0, 0],
+        };
+        let mut key = [240, 5, 5, 5];
+        key[part] = 65_535;
+        let mut answers = vec![(Question::Lookup(key), after(1, told(42, 0, 1)))];
+        for above in [65_536, 131_071, u32::MAX] {
+            key[part] = above;
+            answers.push((Question::Lookup(key), missing(2)));
+        }
+        row(
+            "Ask 8: a part of 65,535, and numbers above it",
+            name(&[[1, 1, 1, 1, 0, 0], one, two], b""),
+            answers,
+        );
+    }
+
+    // Three records, one of which has the key, and a fault that is not in a record.
+    let three = [1, 3, 5].map(|number| [3, 1, 0x409, number, 0, 0]);
+    let fine = name(&three, b"");
+    // Format 1 with a tag whose string runs over.
+    let mut tagged = fine.clone();
+    tagged.extend([0, 1, 0, 1, 0, 0]);
+    (tagged[1], tagged[5]) = (1, 48);
+    let (mut format, mut start) = (fine.clone(), fine.clone());
+    (format[1], start[5]) = (2, 41);
+    for (words, table, answer) in [
+        ("Ask 8: none looked at beside 11", format, refused(11)),
+        (
+            "Ask 8: none looked at beside 12",
+            fine[..41].to_vec(),
+            refused(12),
+        ),
+        (
+            "Ask 8: none looked at beside 13",
+            tagged[..43].to_vec(),
+            refused(13),
+        ),
+        ("Ask 8: none looked at beside 14", start, refused(14)),
+        ("Ask 8: none looked at beside 16", tagged, refused_at(16, 0)),
+    ] {
+        let answers = [1, 2, 3, 5].map(|number| (Question::Lookup([3, 1, 0x409, number]), answer));
+        row(words, table, answers.to_vec());
+    }
+
+    // Record 0 of 5,459 is the last after 2,729, 1,364, 682, 341, 170, 85, 42, 21, 10, 5, 2 and 1.
+    let most: Vec<_> = (0..5_459).map(|i| [3, 1, 1033, i, 0, 0]).collect();
+    row(
+        "Ask 8: 5,459 records, at most 13 looked at",
+        name(&most, b""),
+        vec![
+            (
+                Question::Lookup([3, 1, 1033, 2_729]),
+                after(1, told(65_514, 0, 2_729)),
+            ),
+            (
+                Question::Lookup([3, 1, 1033, 1_364]),
+                after(2, told(65_514, 0, 1_364)),
+            ),
+            (
+                Question::Lookup([3, 1, 1033, 682]),
+                after(3, told(65_514, 0, 682)),
+            ),
+            (
+                Question::Lookup([3, 1, 1033, 1]),
+                after(12, told(65_514, 0, 1)),
+            ),
+            (
+                Question::Lookup([3, 1, 1033, 0]),
+                after(13, told(65_514, 0, 0)),
+            ),
+            (Question::Lookup([3, 1, 1032, 65_536]), missing(13)),
+            (Question::Lookup([0; 4]), missing(13)),
+        ],
+    );
+    // The last key is equal to the one before it.
+    let mut twice: Vec<_> = (0..5_460).map(|i| [3, 1, 1033, i, 0, 0]).collect();
+    twice[5_459][3] = 5_458;
+    row(
+        "Ask 8: a refused table of 5,460 records, none looked at",
+        name(&twice, b""),
+        vec![
+            (Question::Lookup([3, 1, 1033, 2_730]), refused_at(19, 5_459)),
+            (Question::Lookup([0; 4]), refused_at(19, 5_459)),
         ],
     );
     rows

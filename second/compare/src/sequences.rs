@@ -80,7 +80,7 @@ pub fn of_fonts(n: &mut Numbers, fonts: &[[Rc<[u8]>; 2]], levels: &[u32]) -> Cal
 
 /// A request near a font: its family as the second program finds it, or nearly that, and its weight and width or others.
 fn font_request(n: &mut Numbers, os2: &[u8], name: &[u8]) -> Call {
-    let text = |id| second::name::lookup(name, 3, 1, 0x409, id).ok();
+    let text = |id| second::name::lookup(name, 3, 1, 0x409, id).answer.ok();
     let mut family = match text(16).or_else(|| text(1)) {
         Some(text) => name[text.start..text.start + text.length].to_vec(),
         None => b"none".to_vec(),

@@ -1,6 +1,6 @@
 //! The answers of the second program and of the Rust crate, put in the words that the papers and the header make of them.
 
-use crate::question::{Question, Words};
+use crate::question::{Question, Words, LOOKED};
 
 /// The words of a refusal.
 fn refused(number: u32, carried: Option<u64>) -> Words {
@@ -15,6 +15,12 @@ fn refused(number: u32, carried: Option<u64>) -> Words {
 fn given(members: [u64; 4]) -> Words {
     let [a, b, c, d] = members;
     [0, 0, 0, a, b, c, d]
+}
+
+/// The words of a lookup: those of its answer or its refusal, and how many records it looked at.
+fn looked_up(mut answer: Words, looked: usize) -> Words {
+    answer[LOOKED] = looked as u64;
+    answer
 }
 
 /// The words of a comparison: how many rows it wrote, or its refusal with the side (1 left, 2 right, 0 neither).
@@ -93,7 +99,10 @@ pub mod by_second {
                     }| [start as u64, length as u64, record as u64, 0];
         match question {
             Question::NameCheck => of(name::check(table), |()| [0; 4]),
-            Question::Lookup([p, e, l, n]) => of(name::lookup(table, p, e, l, n), text),
+            Question::Lookup([p, e, l, n]) => {
+                let name::LookedUp { answer, looked } = name::lookup(table, p, e, l, n);
+                looked_up(of(answer, text), looked)
+            }
             Question::PostScript => of(name::postscript(table), text),
             Question::Version => of(name::version(table), |version| {
                 let (major, minor) = (u64::from(version.major), u64::from(version.minor));
@@ -223,7 +232,10 @@ pub mod by_crate {
                     }| [start as u64, length as u64, record as u64, 0];
         match question {
             Question::NameCheck => of(name::check(table), |()| [0; 4]),
-            Question::Lookup([p, e, l, n]) => of(name::lookup(table, p, e, l, n), text),
+            Question::Lookup([p, e, l, n]) => {
+                let name::LookedUp { answer, looked } = name::lookup(table, p, e, l, n);
+                looked_up(of(answer, text), looked)
+            }
             Question::PostScript => of(name::postscript(table), text),
             Question::Version => of(name::version(table), |version| {
                 let (major, minor) = (u64::from(version.major), u64::from(version.minor));

@@ -4,6 +4,8 @@ use std::fmt::Write;
 
 use crate::choose_met;
 use crate::chosen::Step;
+use crate::looked::MOST;
+use crate::looked_met::Thing as Looked;
 use crate::met::{self, Edge, Met, Thing, FOUND_NUMBERS, SPOTS, USED};
 use crate::question::{Function, Words, FUNCTIONS};
 use crate::write_met::{self, Kind, Rewriting};
@@ -369,6 +371,22 @@ impl Tally {
             both(&|format| Thing::SameString(format, false)),
             both(&|format| Thing::SameString(format, true))
         );
+        let looked =
+            |found, count| both(&|format| Thing::Looked(Looked::Count(format, found, count)));
+        let [missing, found] = [false, true].map(|found| {
+            let counts: Vec<u64> = (0..=MOST).map(|count| looked(found, count)).collect();
+            counts
+        });
+        let largest = (0..=MOST)
+            .rev()
+            .find(|&count| looked(false, count) + looked(true, count) > 0);
+        let _ = writeln!(
+            lines,
+            "  records looked at by lookups that are found: {}; that are refused by 20: {}; the largest count {}",
+            list(&found, 1),
+            list(&missing, 0),
+            largest.unwrap_or(0)
+        );
         let used = USED.map(|used| {
             [false, true].map(|others| both(&|format| Thing::VersionFrom(format, used, others)))
         });
@@ -427,7 +445,7 @@ impl Tally {
         if let Some(thing) = rarest {
             let _ = writeln!(
                 lines,
-                "  of {} things of comparisons, of records, of answers, of tables to write and of the chooser that are to be met, the rarest was met {} times: {thing}",
+                "  of {} things of comparisons, of records, of answers, of lookups' counts, of tables to write and of the chooser that are to be met, the rarest was met {} times: {thing}",
                 met::all().len(),
                 self.met.times(thing)
             );

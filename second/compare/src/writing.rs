@@ -10,7 +10,7 @@ use crate::entries::{Entry, Lent, List};
 use crate::faults::{self, Front, Refused};
 use crate::met;
 use crate::numbers::Numbers;
-use crate::question::{shown, Function, Question, Words};
+use crate::question::{shown, Function, Question, Words, LOOKED};
 use crate::raw;
 use crate::sides::{by_crate, by_second};
 use crate::write_met::{self, Rewriting, Thing};
@@ -185,7 +185,9 @@ impl Asker {
             let question = Question::Lookup(entry.key.map(u32::from));
             let words = self.ask_name(table, question, read)?;
             let start = 6 + 12 * count as u64 + reading.entries[number].offset;
-            let expected = [0, 0, 0, start, u64::from(entry.length), number as u64, 0];
+            let length = u64::from(entry.length);
+            // How many records it looked at was judged when it was asked.
+            let expected = [0, 0, 0, start, length, number as u64, words[LOOKED]];
             let text = words[3] as usize..(words[3] + words[4]) as usize;
             let found = words == expected && table.get(text) == written::place(entry, &list.pool);
             if !found {
@@ -225,7 +227,8 @@ impl Asker {
     }
 
     /// Gives the records of an accepted table of format 0 as entries, with the table as the pool. That is refused by 32 or 33
-    /// alone, or gives a table that answers every lookup with the same bytes and the same record, and 20 where that does.
+    /// alone, or gives a table that answers every lookup with the same bytes and the same record, and 20 where that does, each
+    /// with as many records looked at.
     pub fn rewriting(
         &mut self,
         table: &[u8],
@@ -321,7 +324,7 @@ impl Asker {
                         table.get(text).map(<[u8]>::to_vec)
                     };
                     old[0] == new[0]
-                        && old[5] == new[5]
+                        && old[5..] == new[5..]
                         && bytes(tables[0], old) == bytes(tables[1], new)
                 }
             };

@@ -9,7 +9,8 @@
 //!   bytes of storage. Its questions are `check`, `postscript`, `version`, and `lookup` with platform,
 //!   encoding, language and name. A string that is found is `start 30 length 2 record 0`, with the
 //!   number of its record; a version number is its two figures and the number of the record that was
-//!   used, `2 5 record 1`.
+//!   used, `2 5 record 1`. Behind what a lookup answers, found or refused, stands how many records it
+//!   looked at: `start 30 length 4 record 1 looked 2`, `refused 20 looked 2`, `refused 17 at 2 looked 0`.
 //! - `= os2` with a length: zero bytes but weight 400, width 5, and then pairs of an offset and the
 //!   16-bit number that stands there. Its questions are document 01's, as `field 39 at level 5`, and
 //!   `check at level 5`. A field's or a bit's value is decimal, or `negative`; a float is its bits.
@@ -152,7 +153,11 @@ fn on_name(bytes: &[u8], line: &str) -> Result<String, Refusal> {
         }
         _ => {
             let key = decimals(line.strip_prefix("lookup ").expect("a question on 'name'"));
-            name::lookup(bytes, key[0], key[1], key[2], key[3]).map(place)
+            let name::LookedUp { answer, looked } =
+                name::lookup(bytes, key[0], key[1], key[2], key[3]);
+            // The count stands behind a refusal too.
+            let said = answer.map(place).unwrap_or_else(refused);
+            Ok(format!("{said} looked {looked}"))
         }
     }
 }

@@ -29,14 +29,14 @@ returns-2 c =
     let k = c .before .before .before .before in
     let first = k .before .before in
     c .look-up2 .ensures
-    ∙ sym (first-missing _ (sym (first .look-up .ensures) ∙ ap saidAnswer (k .answer .given .1 ∙ ap Refused (c .before .enum-told2 .given .1))))
+    ∙ sym (first-missing _ (sym (first .look-up .ensures) ∙ ap saidAnswer (k .first .given .1 ∙ ap Refused (c .before .enum-told2 .given .1))))
 
 returns-3 : tie.Need-returns-3
 returns-3 c =
     let k = c .before .before .before in
     let first = k .before .before in
-    let said = ap saidAnswer (k .answer .given .1 ∙ ap Refused (c .enum-told3 .given .1)) in
-    said ∙ sym (first-refused _ (c .enum-told3 .given .0 .0) (sym (first .look-up .ensures) ∙ said))
+    let why = ap saidAnswer (ap Refused (c .enum-told3 .given .1)) in
+    why ∙ sym (first-refused _ (c .enum-told3 .given .0 .0) (sym (first .look-up .ensures) ∙ ap saidAnswer (k .first .given .1) ∙ why))
 
 returns-4 : tie.Need-returns-4
 returns-4 c =

@@ -18,10 +18,10 @@ use Rattle.face.proofs.look_up.Tie as tie
 at : (c : tie.After-found) →
     let a = c .before .before .before .before .args in
     recordWith (now (a .name)) (familyKey (a .id)) ≡ some (c .found .given .0 .0)
-at c = sym (c .before .before .find .ensures) ∙ ap foundOf (c .found .given .1)
+at c = sym (c .before .before .find .ensures .0) ∙ ap foundOf (c .found .given .1)
 
 nowhere : (c : tie.After-enum-told) → let a = c .before .before .before .before .args in recordWith (now (a .name)) (familyKey (a .id)) ≡ none
-nowhere c = sym (c .before .before .find .ensures) ∙ ap foundOf (c .enum-told .given .1)
+nowhere c = sym (c .before .before .find .ensures .0) ∙ ap foundOf (c .enum-told .given .1)
 
 text-of-requires : tie.Need-text-of-requires
 text-of-requires c κs = record-inside _ (c .before .before .before .before .before .pre) _ (find-has _ _ (at (c .before)) .inside)

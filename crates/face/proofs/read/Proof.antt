@@ -71,13 +71,13 @@ naming : (c : tie.Else1) →
 naming c = face-named _ _ _ (version-answered (c .before .before)) (above (c .before) ∙ le-ltb _ _ (c .if1 .left))
 
 -- where the family's text stands
-found : (c : tie.After-answer2) →
+found : (c : tie.After-found2) →
     let a = c .before .before .before .before .before .before .before .before .before .before .before .before .before .before .args in
-    familyOf (now (a .name)) ≡ answered (c .answer2 .given .0 .0)
-found c = sym (c .before .before .family .ensures) ∙ ap lookups.saidAnswer (c .answer2 .given .1)
+    familyOf (now (a .name)) ≡ answered (c .found2 .given .0 .0)
+found c = sym (c .before .before .family .ensures) ∙ ap lookups.saidAnswer (c .found2 .given .1)
 
 -- whether it is unfit
-is-unfit : (c : tie.After-is-unfit) → c .is-unfit .result ≡ unfit (c .before .before .answer2 .given .0 .0 .len)
+is-unfit : (c : tie.After-is-unfit) → c .is-unfit .result ≡ unfit (c .before .before .found2 .given .0 .0 .len)
 is-unfit c = c .is-unfit .ensures
 
 returns-4 : tie.Need-returns-4
@@ -91,7 +91,7 @@ styled-requires c κs = words-are _ _ (accepted (c .before .before .before .befo
 returns-5 : tie.Need-returns-5
 returns-5 c =
     let answer = c .before in
-    let said = sym (answer .before .before .family .ensures) ∙ ap lookups.saidAnswer (answer .answer .given .1) in
+    let said = sym (answer .before .before .family .ensures) ∙ ap lookups.saidAnswer (answer .found .given .1) in
     (sym (naming (answer .before .before .before) ∙ named-refused _ _ _ said), tt)
 
 returns-6 : tie.Need-returns-6
@@ -104,7 +104,7 @@ returns-6 c =
     let args = start .before .before .args in
     let fit = sym (is-unfit (c .before .before)) ∙ c .before .if2 .left in
     let bytes : Bytes (now (args .name)) = λ i. omega (arith, start .shared-slice-known2 .given i) in
-    let style = c .styled .ensures ∙ styles-are (args .level) _ (answer .answer2 .given .0 .0) (level-is at .0) (accepted told) in (
+    let style = c .styled .ensures ∙ styles-are (args .level) _ (answer .found2 .given .0 .0) (level-is at .0) (accepted told) in (
       ap (λ x. answered (faceAt (now (args .name)) x)) style ∙ sym (naming else ∙ named-face _ _ _ (found answer) fit),
       subst (Fits _) (sym style) (face-fits _ _ _ bytes (found answer) fit),
     )

@@ -23,23 +23,23 @@ accepted c = c .before .before .before .pre
 
 -- what the two searches found
 first-at : (c : tie.After-known-told) → recordWith (table (c .before .before .before)) (keyFrom 1 0 0 6) ≡ some (c .before .first .given .0 .0)
-first-at c = sym (c .before .before .before .before .find .ensures) ∙ ap foundOf (c .before .first .given .1)
+first-at c = sym (c .before .before .before .before .find .ensures .0) ∙ ap foundOf (c .before .first .given .1)
 
 first-none : (c : tie.After-enum-told2) → recordWith (table (c .before .before)) (keyFrom 1 0 0 6) ≡ none
-first-none c = sym (c .before .before .before .find .ensures) ∙ ap foundOf (c .enum-told2 .given .1)
+first-none c = sym (c .before .before .before .find .ensures .0) ∙ ap foundOf (c .enum-told2 .given .1)
 
 second-at : (c : tie.After-known-told2) →
     recordWith (table (c .before .before .before .before .before .before)) (keyFrom 3 1 1033 6) ≡ some (c .before .second .given .0 .0)
-second-at c = sym (c .before .before .before .before .before .before .find2 .ensures) ∙ ap foundOf (c .before .second .given .1)
+second-at c = sym (c .before .before .before .before .before .before .find2 .ensures .0) ∙ ap foundOf (c .before .second .given .1)
 
 second-none : (c : tie.After-enum-told) → recordWith (table (c .before .before .before .before .before)) (keyFrom 3 1 1033 6) ≡ none
-second-none c = sym (c .before .before .before .before .before .find2 .ensures) ∙ ap foundOf (c .enum-told .given .1)
+second-none c = sym (c .before .before .before .before .before .find2 .ensures .0) ∙ ap foundOf (c .enum-told .given .1)
 
 second-alone : (c : tie.After-enum-told3) → recordWith (table (c .before .before .before .before)) (keyFrom 3 1 1033 6) ≡ some (c .enum-told3 .given .0 .0)
-second-alone c = sym (c .before .before .before .before .find2 .ensures) ∙ ap foundOf (c .enum-told3 .given .1)
+second-alone c = sym (c .before .before .before .before .find2 .ensures .0) ∙ ap foundOf (c .enum-told3 .given .1)
 
 neither : (c : tie.After-enum-told4) → recordWith (table (c .before .before .before .before)) (keyFrom 3 1 1033 6) ≡ none
-neither c = sym (c .before .before .before .before .find2 .ensures) ∙ ap foundOf (c .enum-told4 .given .1)
+neither c = sym (c .before .before .before .before .find2 .ensures .0) ∙ ap foundOf (c .enum-told4 .given .1)
 
 from-records-requires : tie.Need-from-records-requires
 from-records-requires c κs =

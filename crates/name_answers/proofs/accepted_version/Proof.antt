@@ -19,17 +19,17 @@ table c = now (c .before .before .args .table)
 
 -- what the two searches found
 wide-at : (c : tie.After-known-told) → recordWith (table (c .before .before .before)) (keyFrom 3 1 1033 5) ≡ some (c .before .wide .given .0 .0)
-wide-at c = sym (c .before .before .before .find .ensures) ∙ ap foundOf (c .before .wide .given .1)
+wide-at c = sym (c .before .before .before .find .ensures .0) ∙ ap foundOf (c .before .wide .given .1)
 
 wide-none : (c : tie.After-enum-told) → recordWith (table (c .before .before)) (keyFrom 3 1 1033 5) ≡ none
-wide-none c = sym (c .before .before .find .ensures) ∙ ap foundOf (c .enum-told .given .1)
+wide-none c = sym (c .before .before .find .ensures .0) ∙ ap foundOf (c .enum-told .given .1)
 
 narrow-at : (c : tie.After-known-told2) →
     recordWith (table (c .before .before .before .before .before .before)) (keyFrom 1 0 0 5) ≡ some (c .before .narrow .given .0 .0)
-narrow-at c = sym (c .before .before .before .find2 .ensures) ∙ ap foundOf (c .before .narrow .given .1)
+narrow-at c = sym (c .before .before .before .find2 .ensures .0) ∙ ap foundOf (c .before .narrow .given .1)
 
 narrow-none : (c : tie.After-enum-told2) → recordWith (table (c .before .before .before .before .before)) (keyFrom 1 0 0 5) ≡ none
-narrow-none c = sym (c .before .before .find2 .ensures) ∙ ap foundOf (c .enum-told2 .given .1)
+narrow-none c = sym (c .before .before .find2 .ensures .0) ∙ ap foundOf (c .enum-told2 .given .1)
 
 returns : tie.Need-returns
 unfolding fromRecords
