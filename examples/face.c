@@ -104,6 +104,7 @@ static void print_name(const uint8_t *table, size_t length)
     if (!refused(family.refusal))
         printf("%lu bytes from byte %lu (record %lu)\n", (unsigned long)family.length, (unsigned long)family.start,
                (unsigned long)family.record);
+    printf("  records looked at for it: %lu\n", (unsigned long)family.looked);
 }
 
 static void print_os2(const uint8_t *table, size_t length, uint32_t level)

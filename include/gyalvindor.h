@@ -141,9 +141,10 @@ gv_refusal gv_name_check(const uint8_t *table, size_t length);
    same four. Refusals as gv_name_check, then 20. Any numbers may be asked for: a part above 65535 is in no record.
 
    The search goes by fixed steps, so that `looked` is the same everywhere. Between a low number, included, at first 0, and a
-   high one, excluded, at first the number of records, it looks at the record of half their sum, rounded down. Where that has
-   the four numbers, it ends; where its four are smaller, low becomes one more than it; where they are larger, high becomes
-   it. It ends where low meets high. Four numbers are compared one after the other, as numbers, also above 65535. */
+   high one, excluded, at first the count of records, it looks at the record whose number is half their sum, rounded down. A
+   record that has the four numbers ends the search. Where the record's four are smaller, low becomes the record's number plus
+   one; where they are larger, high becomes the record's number. The search ends where low meets high. Four numbers are
+   compared one after the other, as numbers, also above 65535. */
 gv_found gv_name_lookup(const uint8_t *table, size_t length, uint32_t platform, uint32_t encoding, uint32_t language,
                         uint32_t name);
 

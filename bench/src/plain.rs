@@ -148,7 +148,7 @@ pub fn told((found, looked): (Option<Text>, usize)) -> LookedUp {
 }
 
 /// What it tells of a table that is refused.
-pub fn untold(refusal: Refusal) -> LookedUp {
+pub fn refused_table(refusal: Refusal) -> LookedUp {
     LookedUp {
         answer: Err(refusal),
         looked: 0,
@@ -159,7 +159,7 @@ pub fn untold(refusal: Refusal) -> LookedUp {
 pub fn lookup(t: &[u8], key: [u16; 4]) -> LookedUp {
     match check(t) {
         Ok(()) => told(search(t, (key[0], key[1], key[2], key[3]))),
-        Err(refusal) => untold(refusal),
+        Err(refusal) => refused_table(refusal),
     }
 }
 

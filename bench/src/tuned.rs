@@ -111,7 +111,7 @@ fn number(key: [u16; 4]) -> u64 {
 pub fn lookup(t: &[u8], key: [u16; 4]) -> LookedUp {
     match check(t) {
         Ok(()) => plain::told(search(t, number(key))),
-        Err(refusal) => plain::untold(refusal),
+        Err(refusal) => plain::refused_table(refusal),
     }
 }
 

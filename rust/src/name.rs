@@ -97,10 +97,10 @@ pub fn check(table: &[u8]) -> Result<(), Refusal> {
 /// Any numbers may be asked for; a part above 65,535 is in no record. No two records of an accepted table have the same key.
 ///
 /// Beside the answer stands how many records the search looked at, found or not. Its steps are fixed, so the count is the same
-/// everywhere. Between a low number, included, at first 0, and a high one, excluded, at first the number of records, it looks
-/// at the record of half their sum, rounded down. Where that has the key, it ends; where its key is smaller, low becomes one
-/// more than it; where its key is larger, high becomes it. It ends where low meets high. Keys are compared part by part, as
-/// numbers, also above 65,535.
+/// everywhere. Between a low number, included, at first 0, and a high one, excluded, at first the count of records, it looks
+/// at the record whose number is half their sum, rounded down. A record that has the key ends the search. Where the record's
+/// key is smaller, low becomes the record's number plus one; where it is larger, high becomes the record's number. The search
+/// ends where low meets high. Keys are compared part by part, as numbers, also above 65,535.
 ///
 /// # Errors
 ///

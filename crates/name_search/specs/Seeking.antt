@@ -1,5 +1,5 @@
--- In the code a search goes by one number: twice that of a key, so that a number stands between each two keys. A record has twice the number of its key; a key of
--- which a part is above 65,535 stands between the last key of 16-bit numbers before it and the next.
+-- What the code's search goes by, as one number. Each number of a key is doubled here, so that one stands between each two keys: a key of which a part is above
+-- 65,535 stands between the last key of 16-bit numbers before it and the next. The code has the undoubled number, and a flag that tells the two apart.
 use Prim.Native.Nat.{ℕ, _+_, _*_}
 use mathlib.Core.Bool.{Bool, true, false, cond, _||_}
 use mathlib.Core.Option.{Option}
