@@ -1,9 +1,9 @@
 -- The code's one number stands to a record's as the key does to the record's key, whatever the key's parts are: so it finds the same record, and looks as often.
 -- Assumes nothing.
-use Prim.Native.Nat.{ℕ, _*_, _≤_, _<_}
+use Prim.Native.Nat.{ℕ, _+_, _*_, _≤_, _<_}
 use mathlib.Core.Path.{_≡_, refl, sym, ap, _∙_}
 use mathlib.Core.Logic.{_⊎_, inl, inr, ⊎-elim, _↔_}
-use mathlib.Core.Bool.{Bool, true, false, _&&_, false≢true}
+use mathlib.Core.Bool.{Bool, true, false, cond, _&&_, false≢true}
 use mathlib.Core.Option.{Option, none}
 use mathlib.Core.List.{List}
 use native.Mathlib.Nat.{suc-le-suc-iff}
@@ -20,9 +20,13 @@ use Rattle.name_layout.proofs.Keys.{Small, key-small, same-is, below-is, packed
 use Rattle.name.specs.Acceptance.{faults}
 use Rattle.name_search.specs.Steps.{looks}
 use Rattle.name_search.specs.Searches.{recordWith, looksFor}
-use Rattle.name_search.specs.Seeking.{beyond, lastBefore, soughtBy, soughtOf, doubled, recordSought, looksSought}
+use Rattle.name_search.specs.Seeking.{beyond, lastBefore, soughtBy, doubled, recordSought, looksSought}
 use Rattle.name_search.proofs.Finds.{ordered}
 use Rattle.name_search.proofs.Halvings.{Rising}
+
+-- what a search for a key goes by
+unfoldable pub soughtOf : Key → ℕ
+soughtOf k = cond (beyond k) (2 * packed (lastBefore (k .platform) (k .encoding) (k .language)) + 1) (2 * packed k)
 
 -- each part of a key is below 65,536, or one is beyond
 pub not-beyond : (k : Key) → (beyond k ≡ false) ↔ Small k

@@ -27,10 +27,6 @@ abbrev pub soughtBy : ℕ → Bool → ℕ
 soughtBy number true = 2 * number
 soughtBy number false = 2 * number + 1
 
--- what a search for a key goes by
-unfoldable pub soughtOf : Key → ℕ
-soughtOf k = cond (beyond k) (2 * packed (lastBefore (k .platform) (k .encoding) (k .language)) + 1) (2 * packed k)
-
 -- what record i has
 abbrev pub doubled : List ℕ → ℕ → ℕ
 doubled t i = 2 * packed (keyOf t i)
