@@ -1,6 +1,8 @@
 // Big-endian numbers of 16 and 32 bits in lent bytes: reads and stores.
 // Document 01, "The two tables and nothing else": all numbers are big-endian.
 // The callers are our own crates, which show that the bytes are there.
+#![tactic(auto)]
+
 ghost use Rattle.std.specs.Prelude.{◌≡◌, ◌+◌, ◌*◌, ◌≤◌, length};
 ghost use Rattle.bigendian.specs.Numbers.{number, stored};
 

@@ -1,5 +1,7 @@
 // The characters of a lent string, one byte a character or two (wide): how many, the code of each, and the digits among them.
 // Document 01, "PostScript name and version number". It takes any bytes, and relies on `bigendian` for a character of two.
+#![tactic(auto)]
+
 ghost use Rattle.std.specs.Prelude.{◌≤◌, min, ◌≡◌, true, length};
 ghost use Rattle.characters.specs.Strings.{odd, characters, char};
 ghost use Rattle.characters.specs.Digits.{digit, longer};

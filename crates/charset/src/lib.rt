@@ -1,5 +1,7 @@
 // The characters of a PostScript name: whether a byte is the code of one.
 // Document 01, "PostScript name and version number": the codes 33 to 126 without ten, which leaves 84. Document 02, Ask 6: by one read in a table.
+#![tactic(auto)]
+
 ghost use Rattle.std.specs.Prelude.{◌≡◌};
 ghost use Rattle.charset.specs.Allowed.{allowed};
 ghost use Rattle.charset.specs.Table.{AllowsExactly};

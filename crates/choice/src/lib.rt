@@ -1,6 +1,8 @@
 // How near a face is to what a request wants, as one number: the least is the choice.
 // Document 02, Ask 7: "matching slope first, then the smallest width difference, then the smallest weight difference, then the lower weight, then the lower slot".
 // The code relies on nothing, and its definitions on `same_bytes`: the rack's own crate goes through the slots and compares families.
+#![tactic(auto)]
+
 ghost use Rattle.std.specs.Prelude.{◌≡◌, ◌<◌};
 ghost use Rattle.choice.specs.Ranks.{gap, differ, within16, rank, lower};
 

@@ -1,6 +1,8 @@
 // A chooser for the rack: 32 slots for faces, and the face of a family that is nearest to what a request wants.
 // Document 02, Ask 7. Relies on `face` for what two tables give and on `choice` for which of two faces comes first. The rack is passed and returned by value; what a load or an unload does is done
 // to one slot, which is written back on the one way through the call, so that the rack is copied once in and once out; a request copies it once.
+#![tactic(auto)]
+
 ghost use Rattle.std.specs.Prelude.{◌≡◌, ◌<◌, ◌≤◌, cond, length, take};
 ghost use Rattle.std.proofs.Math.Option.{none, some};
 ghost use Rattle.outcomes.specs.Outcomes.{refusal_of, unless};

@@ -1,6 +1,8 @@
 // The answers of the chooser in the words of C.
 // Document 02, Ask 7; `gv_loaded` and `gv_chosen` in `include/gyalvindor.h`; a rack has the same members there as here.
 // Relies on `refusal_words` for a refusal's words, and on `chooser` for what an answer says.
+#![tactic(auto)]
+
 ghost use Rattle.std.specs.Prelude.{◌≡◌};
 ghost use Rattle.refusal_words.specs.Words.{outcome_refusal};
 ghost use Rattle.chooser.specs.Replies.{said_change, said_choice};

@@ -1,5 +1,7 @@
 // Lists what differs between two tables: `compare os2 LEVEL LEFT RIGHT` and `compare name LEFT RIGHT`, where LEFT and RIGHT name files, and further
 // comparisons one after another. Document 02, Ask 2; docs/DECISIONS.md has the lines. It only reads, loops and writes: rows and lines are the libraries'.
+#![tactic(auto)]
+
 ghost use Rattle.std.specs.Prelude.{◌*◌, ◌≤◌, ◌<◌, length};
 ghost use Rattle.lines.specs.Pieces.{line_room};
 

@@ -1,6 +1,8 @@
 // The lines of a comparison of two tables: one for each row, the line of a refusal with its side, and the line of an input that is too long.
 // Document 02, Ask 2; docs/DECISIONS.md has how the lines read.
 // It relies on `comparing` for a refusal with its side, on `name_lines` and `os2_figures` for a key and a value as text, and on the pieces of lines of `lines`.
+#![tactic(auto)]
+
 ghost use Rattle.std.specs.Prelude.{◌+◌, ◌≤◌, ◌≡◌, length};
 ghost use Rattle.outcomes.specs.Outcomes.{refusal_of};
 ghost use Rattle.lines.specs.Pieces.{Put};

@@ -1,6 +1,8 @@
 // What a comparison of two tables says, in the words of C.
 // Document 02, Ask 2; `gv_compared` in `include/gyalvindor.h`. The rows themselves are numbers already, and C sees them as they are.
 // Relies on `refusal_words` for a refusal's words, and on `name_compare` and `os2_compare` for what a comparison says.
+#![tactic(auto)]
+
 ghost use Rattle.std.specs.Prelude.{◌≡◌};
 ghost use Rattle.comparing.specs.Comparisons.{blamed_of};
 ghost use Rattle.name_compare.specs.Comparisons.{said_compared as saidNames};

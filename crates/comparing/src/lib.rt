@@ -1,5 +1,7 @@
 // What the two comparisons of tables share: which side a refusal is about, the list of what differs, and the rows that hold it.
 // Document 02, Ask 2. It relies on `outcomes` for a refusal.
+#![tactic(auto)]
+
 ghost use Rattle.std.specs.Prelude.{◌≡◌};
 ghost use Rattle.outcomes.specs.Outcomes.{refusal_of};
 ghost use Rattle.comparing.specs.Rooms.{is_too_many};

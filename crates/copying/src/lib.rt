@@ -1,6 +1,8 @@
 // Bytes copied from one lent slice into another: so many, from a place on, to a place. The callers are our own crates, which show that the bytes are there.
 // Nothing tells the compiler that the two slices do not overlap. Of a loop over single bytes it makes one that copies 32 a turn, where there are as many, with
 // a slow end; so the end is copied by blocks, each read whole before it is stored, which makes one load and one store of it.
+#![tactic(auto)]
+
 ghost use Rattle.std.specs.Prelude.{◌≡◌, ◌+◌, ◌≤◌, length, take, drop};
 ghost use Rattle.std.proofs.lemmas.List.Edits.{sets};
 

@@ -1,6 +1,8 @@
 // The face that a font's two tables give at a level: its weight, width class and slope, and where its family's text stands in the 'name' table.
 // Document 02, Ask 7: the refusals of a load from the 'OS/2' refusal on. Relies on the readers, each table being checked once: on `os2` and `os2_fields` for what stands in the 'OS/2' table, and on
 // `name` and `name_search` for the family's record. No number of a table is read but by asking them, and what they answer is what the reader's questions and lookup do.
+#![tactic(auto)]
+
 ghost use Rattle.std.specs.Prelude.{◌≡◌};
 ghost use Rattle.std.proofs.Math.Option.{none};
 ghost use Rattle.outcomes.specs.Outcomes.{refusal_of};

@@ -2,6 +2,8 @@
 // Document 01, whole, and document 02, Asks 1 to 8; `include/gyalvindor.h` says the same to a C programmer.
 // Relies on `name`, `name_lookup`, `name_strings` and `name_writer`, on `os2` and `os2_writer`, on `name_compare`, `os2_compare` and `chooser`, which answer, and on
 // `name_words`, `name_writer_words`, `os2_words`, `compare_words` and `chooser_words`, which put an answer into words of C.
+#![tactic(auto)]
+
 ghost use Rattle.std.specs.Prelude.{◌≡◌, length};
 ghost use Rattle.name_layout.specs.Keys.{key_from};
 ghost use Rattle.name.specs.Acceptance.{check_of};

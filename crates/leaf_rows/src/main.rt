@@ -1,6 +1,8 @@
 // Rows of the leaves that both tables stand on: what some numbers are as a level, the characters of a PostScript name, and what version texts read.
 // Document 01, "Levels", "PostScript name and version number" and its version rows. The version texts have one byte a character: those of the input, one
 // a line, and one of its own. A row is the text and its two figures or the refusal's number; the stored ones are made by the second program, `rows versions`.
+#![tactic(auto)]
+
 ghost use Rattle.std.specs.Prelude.{◌≡◌};
 
 use level::{Level, LevelAnswer};

@@ -1,5 +1,7 @@
 // Document 01's levels: the highest 'OS/2' version that a reader knows, the size of a version's table, and the level that a word of digits gives.
 // Document 01, "Levels", refusal 1, and the sizes of "The 'OS/2' fields". It relies on `outcomes` for a refusal's number and on `characters` for digits.
+#![tactic(auto)]
+
 ghost use Rattle.std.specs.Prelude.{◌≡◌};
 ghost use Rattle.level.specs.Levels.{number_of, level_of};
 ghost use Rattle.level.specs.Sizes.{table_size};

@@ -1,6 +1,8 @@
 // Lines of text: the pieces that a line is put together from, the line of a refusal, and the line of an input that is too long.
 // Document 01, end of "Examples to check against".
 // It relies on `outcomes` for a refusal in document 01's numbers, and on `characters` for what a text's codes are.
+#![tactic(auto)]
+
 ghost use Rattle.std.specs.Prelude.{◌+◌, ◌≤◌, ◌≡◌, ◌++◌, length, take, drop};
 ghost use Rattle.characters.specs.Texts.{codes};
 ghost use Rattle.outcomes.specs.Outcomes.{refusal_of};

@@ -1,5 +1,7 @@
 // Lists the 'name' table of each file that its arguments name, or of standard input where there is none.
 // Document 01, end of "Examples to check against". It only reads, loops and writes: the lines are the libraries'.
+#![tactic(auto)]
+
 ghost use Rattle.std.specs.Prelude.{◌≤◌, ◌≡◌, length};
 ghost use Rattle.std.proofs.Math.Option.{none};
 ghost use Rattle.lines.specs.Pieces.{line_room};

@@ -1,5 +1,7 @@
 // What the programs share: a table read from a file or from standard input, and lines collected in a buffer and written.
 // No contract can say what a call of the operating system reads or writes: what is read has a bound, and where the next line goes is said.
+#![tactic(auto)]
+
 ghost use Rattle.std.specs.Prelude.{◌+◌, ◌≤◌, length, ◌≡◌};
 ghost use Rattle.lines.specs.Pieces.{line_room};
 ghost use Rattle.listing_io.specs.Inputs.{Within, behind};

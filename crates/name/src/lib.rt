@@ -1,6 +1,8 @@
 // The check of a 'name' table: whether it is accepted, and why not.
 // Document 01, the refusals 10 to 18 in their order, and document 02, Ask 3, which splits 15 and 17. It relies on the test of each, on the table's layout
 // and on the shared words for a refusal.
+#![tactic(auto)]
+
 ghost use Rattle.std.specs.Prelude.{◌≡◌, true, false, ◌+◌, ◌/◌, ◌%◌, ◌≤◌, ◌<◌};
 ghost use Rattle.std.proofs.Math.Option.{none};
 ghost use Rattle.outcomes.specs.Firsts.{first_of};

@@ -1,6 +1,8 @@
 // Two questions on the strings of an accepted 'name' table: its PostScript name and its version number.
 // Document 01, "PostScript name and version number", and refusals 20 to 25; document 02, Ask 4: both answers "carry the number of the record that they used".
 // It relies on the table's check, on the search in an accepted table, and on the character and version tests of a string.
+#![tactic(auto)]
+
 ghost use Rattle.std.specs.Prelude.{◌≡◌, true, false, not, ◌<◌};
 ghost use Rattle.std.proofs.Math.Option.{none};
 ghost use Rattle.outcomes.specs.Firsts.{when};

@@ -2,6 +2,8 @@
 // Document 02, Ask 2, and refusal 29. It relies on `name` for the check: the records of an accepted table are in the order of their keys, so one pass over
 // both, side by side, meets each key once; on `name_search` for a record's string, on `same_bytes` for whether two are the same, and on `comparing` for the list and
 // its rows.
+#![tactic(auto)]
+
 ghost use Rattle.std.specs.Prelude.{◌≡◌, cond, ◌+◌, ◌*◌, ◌/◌, ◌≤◌, eqb, length};
 ghost use Rattle.std.proofs.lemmas.List.Edits.{sets};
 ghost use Rattle.name_layout.specs.Layout.{bytes_of};

@@ -1,5 +1,7 @@
 // The 'name' table's layout: where its numbers stand, and the reads of them. Nothing else knows an offset.
 // Document 01, "The 'name' layout". It relies on big-endian reads; its callers show that the bytes are there.
+#![tactic(auto)]
+
 ghost use Rattle.std.specs.Prelude.{◌≡◌, ◌+◌, ◌≤◌, length};
 ghost use Rattle.bigendian.specs.Numbers.{number};
 ghost use Rattle.name_layout.specs.Layout.{format, count, storage, record_at, part, record_in, text_at, records_end, tag_count, tags_at, tag_at, tags_end, string_start, string_length};

@@ -1,6 +1,8 @@
 // The lines of a 'name' table's listing, from the table: head, records, PostScript name and version.
 // Document 01, end of "Examples to check against", and document 02, Ask 4.
 // It relies on the table's layout and check, on the answers to its two questions, and on the pieces of lines of `lines`.
+#![tactic(auto)]
+
 ghost use Rattle.std.specs.Prelude.{◌+◌, ◌≤◌, ◌≡◌, length};
 ghost use Rattle.std.proofs.Math.Option.{none};
 ghost use Rattle.lines.specs.Lines.{line_of};

@@ -2,6 +2,8 @@
 // Document 01, "Lookup gives the string's start, from the table's first byte, and its length", and refusal 20; document 02, Ask 4: and the record's number; Ask 8: and
 // how many records it looked at.
 // It relies on the table's check and on the search in an accepted table.
+#![tactic(auto)]
+
 ghost use Rattle.std.specs.Prelude.{◌≡◌};
 ghost use Rattle.outcomes.specs.Outcomes.{refusal_of};
 ghost use Rattle.name_layout.specs.Keys.{key_from};

@@ -1,5 +1,7 @@
 // The record of an accepted 'name' table that has a key, how many records the search for it looks at, and the string of a record.
 // Document 01, "The 'name' layout", and document 02, Asks 4 and 8. It relies on the table's check: the records of an accepted table are in the order of their keys.
+#![tactic(auto)]
+
 ghost use Rattle.std.specs.Prelude.{◌≡◌, ◌+◌, ◌≤◌, length};
 ghost use Rattle.std.proofs.Math.Option.{none};
 ghost use Rattle.name_layout.specs.Layout.{record_at};

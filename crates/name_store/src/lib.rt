@@ -1,6 +1,8 @@
 // What the writer of a 'name' table is made of: an entry, the test of each refusal, and the stores of one entry.
 // Document 02, Ask 5. The caller is the writer, which goes through the entries twice: it checks each in turn, and then writes each in turn.
 // Relies on `copying` and `bigendian` for the stores, on `name_layout` for the order of keys and on `name_tests` for the languages that format 0 allows.
+#![tactic(auto)]
+
 ghost use Rattle.std.specs.Prelude.{◌≡◌, ◌+◌, ◌≤◌, length};
 ghost use Rattle.std.proofs.lemmas.List.Edits.{sets};
 ghost use Rattle.outcomes.specs.Outcomes.{refusal_of};

@@ -1,6 +1,8 @@
 // Two questions on the strings of a 'name' table: its PostScript name and its version number.
 // Document 01, "PostScript name and version number": each checks the whole table first and passes on that refusal.
 // It relies on the table's check, and on the answers from an accepted table.
+#![tactic(auto)]
+
 ghost use Rattle.std.specs.Prelude.{◌≡◌};
 ghost use Rattle.name_answers.specs.Names.{postscript_of, said_name};
 ghost use Rattle.name_answers.specs.Versions.{version_of, said_version};

@@ -1,5 +1,7 @@
 // The tests of a 'name' table: whether the condition of each refusal holds, of the table, of a record or of a tag.
 // Document 01, refusals 10 to 18, and document 02, Ask 3, 19 and 27, one by one. It relies on the table's layout; its callers show that the bytes are there.
+#![tactic(auto)]
+
 ghost use Rattle.std.specs.Prelude.{◌≡◌, ◌||◌, ◌+◌, ◌≤◌, ◌<◌, length};
 ghost use Rattle.name_layout.specs.Layout.{count, record_at};
 ghost use Rattle.name_tests.specs.Tests.{is_too_short, in_other_format, records_pass_end, tags_pass_end, misplaced};

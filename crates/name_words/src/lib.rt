@@ -2,6 +2,8 @@
 // Document 01, the check of a 'name' table, lookup, and "PostScript name and version number"; document 02, Asks 4 and 8; `gv_found`, `gv_text` and `gv_version` in
 // `include/gyalvindor.h`.
 // Relies on `refusal_words` for a refusal's words, and on `name`, `name_lookup` and `name_answers` for what an answer says.
+#![tactic(auto)]
+
 ghost use Rattle.std.specs.Prelude.{◌≡◌};
 ghost use Rattle.name.specs.Refusals.{said_check};
 ghost use Rattle.name_lookup.specs.Answers.{said_lookup};

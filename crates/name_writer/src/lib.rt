@@ -2,6 +2,8 @@
 // Document 02, Ask 5, in its order of refusals: 30; at each entry 31, 18, 17 or 19, 32; 33.
 // The entries are a lent slice of structs. The two functions that read it only go through it, copy one entry out and hand it on; what is done with an entry
 // is `name_store`'s.
+#![tactic(auto)]
+
 ghost use Rattle.std.specs.Prelude.{◌≡◌, length};
 ghost use Rattle.name_store.specs.Entries.{Entries};
 ghost use Rattle.name_store.specs.Writing.{write_of, room_after};

@@ -1,6 +1,8 @@
 // The 'OS/2' reader: whether a level accepts a table, and the seven questions.
 // Document 01, "Questions on an accepted OS/2 table", in its order of refusals.
 // Relies on `level` for levels, `os2_acceptance` for refusals 2 and 3, `os2_questions` for refusals 6 and 7, and `os2_answers` for the answers on an accepted table.
+#![tactic(auto)]
+
 ghost use Rattle.std.specs.Prelude.{◌≡◌};
 ghost use Rattle.outcomes.specs.Firsts.{◌then◌};
 ghost use Rattle.outcomes.specs.Outcomes.{answered, unless};

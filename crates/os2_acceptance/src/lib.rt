@@ -1,6 +1,8 @@
 // Which 'OS/2' tables a level accepts: refusals 2 and 3, in their order, and the reader's refusals in document 01's numbers.
 // Document 01, "The 'OS/2' fields" and "Levels".
 // Relies on `os2_fields` for what stands in the fields, `level` for levels and sizes, and `os2_rules` for the value rules.
+#![tactic(auto)]
+
 ghost use Rattle.std.specs.Prelude.{◌≡◌, true};
 ghost use Rattle.std.proofs.Math.Option.{none};
 ghost use Rattle.outcomes.specs.Outcomes.{refusal_of};

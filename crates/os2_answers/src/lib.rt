@@ -2,6 +2,8 @@
 // Document 01, "Questions on an accepted OS/2 table", and demand 3.
 // Relies on `os2_questions` for the case of an answer, `os2_acceptance` for acceptance, `os2_fields` for what stands in the fields, and `os2_style` for the last
 // three questions' values.
+#![tactic(auto)]
+
 ghost use Rattle.std.specs.Prelude.{◌≡◌, false, ◌<◌, pos};
 ghost use Rattle.std.proofs.Math.Option.{none};
 ghost use Rattle.level.specs.Levels.{number_of};

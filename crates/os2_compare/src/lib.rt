@@ -1,6 +1,8 @@
 // Two 'OS/2' tables compared at a level: the fields whose answers differ, with both answers, in field order.
 // Document 02, Ask 2, and refusal 29. It relies on `os2_acceptance` for whether a level accepts a table, on `os2_questions` and `os2_fields` for a field's
 // answer, and on `comparing` for the list and its rows.
+#![tactic(auto)]
+
 ghost use Rattle.std.specs.Prelude.{◌≡◌, ◌+◌, ◌/◌, ◌≤◌, length};
 ghost use Rattle.std.proofs.lemmas.List.Edits.{sets};
 ghost use Rattle.level.specs.Levels.{number_of};

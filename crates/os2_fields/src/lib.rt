@@ -1,6 +1,8 @@
 // The fields of an 'OS/2' table: the catalogue, and the numbers that stand in a table's fields.
 // Document 01, "The 'OS/2' fields": big-endian numbers, some of them signed, at the catalogue's places.
 // Relies on `bigendian`. The callers are our own crates, which show that a field lies within the table.
+#![tactic(auto)]
+
 ghost use Rattle.std.specs.Prelude.{◌≡◌, ◌≤◌, ◌<◌, length, pos};
 ghost use Rattle.level.specs.Sizes.{table_size};
 ghost use Rattle.os2_rules.specs.Bits.{bit};

@@ -1,6 +1,8 @@
 // The values of the answers on an 'OS/2' table as text: whole numbers, rights, the style position and optical sizes.
 // Document 01, "Questions on an accepted OS/2 table"; docs/DECISIONS.md has how the figures read.
 // It relies on the values of `os2_style` and on the pieces of lines of `lines`. The callers are our own crates, which have the room.
+#![tactic(auto)]
+
 ghost use Rattle.std.specs.Prelude.{◌+◌, ◌≤◌, ◌≡◌, ◌++◌, length, nat_abs};
 ghost use Rattle.lines.specs.Pieces.{Put};
 ghost use Rattle.os2_rules.specs.Rules.{WidthRule};

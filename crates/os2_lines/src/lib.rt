@@ -2,6 +2,8 @@
 // Document 01, "Questions on an accepted OS/2 table"; docs/DECISIONS.md has how the lines read.
 // It relies on `os2_questions` for which case an answer is, on `os2_fields` and `os2_style` for the values, on `os2_figures` for the values as text, and
 // on the pieces of lines of `lines`.
+#![tactic(auto)]
+
 ghost use Rattle.std.specs.Prelude.{◌+◌, ◌≤◌, ◌≡◌, length};
 ghost use Rattle.std.proofs.Math.Option.{none};
 ghost use Rattle.lines.specs.Numerals.{most_digits};

@@ -1,5 +1,7 @@
 // Lists an 'OS/2' table as a level reads it: `os2_listing LEVEL [FILE]`, and further pairs of a level and a file one after another. A level without
 // a file reads standard input. docs/DECISIONS.md has the lines. It only reads, loops and writes: the lines are the libraries'.
+#![tactic(auto)]
+
 ghost use Rattle.std.specs.Prelude.{◌≤◌, ◌≡◌, length};
 ghost use Rattle.std.proofs.Math.Option.{none};
 ghost use Rattle.lines.specs.Pieces.{line_room};

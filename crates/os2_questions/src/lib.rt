@@ -1,6 +1,8 @@
 // The seven questions before any value is read: the refusal of a question's own number, the version that what it asks for came in with, and the three cases
 // of an answer. Document 01, "Questions on an accepted OS/2 table".
 // Relies on `level` for levels, `os2_fields` for the table's version and the catalogue, and `os2_acceptance` for the enum of the refusals.
+#![tactic(auto)]
+
 ghost use Rattle.std.specs.Prelude.{◌≡◌, ◌≤◌, ltb, length};
 ghost use Rattle.std.proofs.Math.Option.{none};
 ghost use Rattle.outcomes.specs.Firsts.{when};

@@ -1,5 +1,7 @@
 // The seven value rules of an 'OS/2' table, on the values that they look at.
 // Document 01, "The 'OS/2' fields", value rules 1 to 7; rule 4 by document 02, Ask 1. The reader and the writer share them.
+#![tactic(auto)]
+
 ghost use Rattle.std.specs.Prelude.{◌≡◌, ◌||◌};
 ghost use Rattle.os2_rules.specs.Tests.{weight_broken, width_broken, type_broken, rights_broken, selection_broken, regular_broken, sizes_broken, verdict_of, said, kept};
 

@@ -2,6 +2,8 @@
 // Document 01, "The writer", refusal 8 and what is written.
 // Relies on `os2_fields` for the catalogue and `bigendian` for the stores. The caller is the writer, which shows that the version is one and the room
 // long enough.
+#![tactic(auto)]
+
 ghost use Rattle.std.specs.Prelude.{◌≡◌, ◌^◌, true, not, ◌&&◌, leb, length, pos};
 ghost use Rattle.bigendian.specs.Numbers.{stored};
 ghost use Rattle.outcomes.specs.Firsts.{first_of};

@@ -1,5 +1,7 @@
 // Rights, the style position and optical sizes, from the numbers that are stored.
 // Document 01, "Questions on an accepted OS/2 table", the last three questions; rights by document 02, Ask 1.
+#![tactic(auto)]
+
 ghost use Rattle.std.specs.Prelude.{◌≡◌};
 ghost use Rattle.os2_rules.specs.Rules.{WidthRule};
 ghost use Rattle.os2_style.specs.Style.{rights_of, rights_number, float, percent_of, points, sizes_of, said_sizes};

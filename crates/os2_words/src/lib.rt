@@ -2,6 +2,8 @@
 // Document 01, "Questions on an accepted OS/2 table" and "The writer"; `gv_number`, `gv_rights`, `gv_style`, `gv_optical` and `gv_written`
 // in `include/gyalvindor.h`.
 // Relies on `refusal_words` for a refusal's words, and on `os2` and `os2_writer` for what an answer says.
+#![tactic(auto)]
+
 ghost use Rattle.std.specs.Prelude.{◌≡◌};
 ghost use Rattle.outcomes.specs.Outcomes.{answered};
 ghost use Rattle.os2_style.specs.Style.{said_sizes};

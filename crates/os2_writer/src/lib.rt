@@ -2,6 +2,8 @@
 // Document 01, "The writer", in its order of refusals: 4, 5, 8, 3.
 // Relies on `os2_store` for what is written and the passes over the fields, `os2_acceptance` for what level 5 accepts, `os2_fields` for the catalogue and
 // `os2_rules` for the value rules.
+#![tactic(auto)]
+
 ghost use Rattle.std.specs.Prelude.{◌≡◌, ◌≤◌, length};
 ghost use Rattle.std.proofs.Math.Option.{none};
 ghost use Rattle.outcomes.specs.Outcomes.{refusal_of};

@@ -2,6 +2,8 @@
 // bits 1 to 3 in versions 2 and 3.
 // A room is lent filled with 170. A row ends with the room's first byte and, of a room of 101 bytes, its last, which no table reaches.
 // The stored output is made by the second program, `writer_rows`.
+#![tactic(auto)]
+
 use libc::STDOUT_FILENO;
 use os2::{Answer, Reply};
 use os2_fields::FIELD_COUNT;

@@ -1,8 +1,7 @@
 -- What the code's refusals carry, written out: by computing.
 -- Assumes nothing.
-use Prim.Native.Nat.{ℕ}
 use mathlib.Core.Path.{◌≡◌, refl}
-use mathlib.Core.Option.{Option, none, some}
+use mathlib.Core.Option.{none, some}
 use mathlib.Core.List.{[], ◌∷◌, map}
 use Rattle.outcomes.specs.declared.Carried.TheVariants.{Nothing, This}
 use Rattle.outcomes.specs.Outcomes.{carried_of}

@@ -1,5 +1,7 @@
 // What any call says: document 01, "Numbers given for a refusal". The definitions of an outcome, of the first refusal in an order and of the first of
 // so many stand here once, for both tables, the writer and what is built on them; so does the code's refusal in document 01's numbers.
+#![tactic(auto)]
+
 ghost use Rattle.std.specs.Prelude.{◌≡◌};
 ghost use Rattle.outcomes.specs.Outcomes.{bare, carrying, refusal_of};
 

@@ -1,6 +1,8 @@
 // A refusal in the words of C: the struct that stands first in every answer of the library.
 // Document 01, "A refusal returns its number and what it carries, and no partial result"; `gv_refusal` in `include/gyalvindor.h`.
 // Relies on `outcomes`, which has a refusal in document 01's numbers.
+#![tactic(auto)]
+
 ghost use Rattle.std.specs.Prelude.{◌≡◌};
 ghost use Rattle.outcomes.specs.Outcomes.{refusal_of};
 ghost use Rattle.refusal_words.specs.Words.{told_words};

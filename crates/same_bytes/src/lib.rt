@@ -1,6 +1,8 @@
 // Whether two texts have the same bytes, for our own crates.
 // Of a loop that goes through the whole of both, without a branch, the compiler makes one that looks at 32 bytes a turn, with a slow start and a slow end; so a
 // short text is looked at by blocks. It makes one load of each block, and one comparison of two.
+#![tactic(auto)]
+
 ghost use Rattle.std.specs.Prelude.{◌≡◌, ◌+◌, ◌≤◌, length, take, drop};
 ghost use Rattle.same_bytes.specs.Same.{same};
 

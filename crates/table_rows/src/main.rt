@@ -5,6 +5,8 @@
 //   `version`, and `lookup` with platform, encoding, language and name.
 // - `= os2` with a length, at most 100: zero bytes but weight 400, width 5, and then pairs of an offset and the 16-bit number that
 //   stands there. Its questions are those of document 01, as `field 39 at level 5`, and `check at level 5`; a float is written by its bits.
+#![tactic(auto)]
+
 mod lines;
 mod name_rows;
 mod os2_rows;

@@ -1,6 +1,8 @@
 // The version number in a lent string, one byte a character or two (wide).
 // Document 01, "PostScript name and version number", and refusal 25. It takes any bytes, and relies on `characters` for the string's characters and
 // digits, and on `outcomes` for what an answer says.
+#![tactic(auto)]
+
 ghost use Rattle.std.specs.Prelude.{◌≡◌};
 ghost use Rattle.characters.specs.Strings.{characters, char};
 ghost use Rattle.characters.specs.Digits.{digit};

@@ -1,0 +1,7 @@
+-- A figure of at most 65,535 and one more digit stay far below what a u32 holds.
+use native.Mathlib.Omega.{arith}
+use Rattle.characters.proofs.Digits.{digit_is}
+use Rattle.characters.proofs.with_digit.Goals as goal
+
+pub overflow_sub-value : goal.overflow_sub-value
+overflow_sub-value c = omega (arith, (digit_is c.args.code).0 c.requires.0)
