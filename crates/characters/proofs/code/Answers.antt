@@ -9,20 +9,17 @@ use Rattle.bigendian.proofs.Laws.{number_2}
 use Rattle.characters.proofs.Laws.{length_pairs, char_pairs, char_past}
 use Rattle.characters.proofs.code.Goals as goal
 
-in_pairs : (c : goal.Then-wide) → c.args.at < length c.args.text.now / 2
-in_pairs c = omega (arith, rw (c.if-wide.true, length_pairs) at c.count.ensures)
-
 pub returns-then-count-at : goal.returns-then-count-at
 returns-then-count-at c = sym (char_past _ _ (omega (arith, c.count.ensures)))
 
 pub overflow_mul-at : goal.overflow_mul-at
-overflow_mul-at c = omega (arith, in_pairs c)
+overflow_mul-at c = omega (arith, (let h : c.args.at < length c.args.text.now / 2 = omega (arith, rw (c.if-wide.true, length_pairs) at c.count.ensures) in h))
 
 pub read_u16-requires : goal.read_u16-requires
-read_u16-requires c = omega (arith, in_pairs c)
+read_u16-requires c = omega (arith, (let h : c.args.at < length c.args.text.now / 2 = omega (arith, rw (c.if-wide.true, length_pairs) at c.count.ensures) in h))
 
 pub returns-then-wide : goal.returns-then-wide
-returns-then-wide c = rw (c.if-wide.true, char_pairs _ _ (in_pairs c), ← number_2) c.read_u16.ensures
+returns-then-wide c = rw (c.if-wide.true, char_pairs _ _ ((let h : c.args.at < length c.args.text.now / 2 = omega (arith, rw (c.if-wide.true, length_pairs) at c.count.ensures) in h)), ← number_2) c.read_u16.ensures
 
 pub bounds-text-at : goal.bounds-text-at
 bounds-text-at c = omega (arith, rw c.if-wide.false at c.count.ensures)

@@ -1,9 +1,7 @@
-use Prim.Native.Nat.{suc, ◌+◌, ◌-◌}
+use Prim.Native.Nat.{suc, ◌+◌}
 use mathlib.Core.Path.{◌≡◌, refl, sym, ◌∙◌}
-use mathlib.Core.Bool.{true}
 use native.Mathlib.Numerals.{add-one}
 use native.Mathlib.Omega.{arith}
-use borrow.Author.Tests.{not-true, not-false}
 use lib.Seq.{take_all}
 use Rattle.outcomes.proofs.Tests.{and_true, equal}
 use Rattle.same_bytes.specs.Same.{same}
@@ -21,10 +19,10 @@ pub same_8-requires : goal.same_8-requires
 same_8-requires c = (omega arith, omega arith)
 
 pub returns-then-not-same_8 : goal.returns-then-not-same_8
-returns-then-not-same_8 c = let l = c.loop-i in sym (part_differs _ _ l.i 8 (sym c.same_8.ensures ∙ not-true _ c.if-not-same_8.true))
+returns-then-not-same_8 c = let l = c.loop-i in sym (part_differs _ _ l.i 8 (sym c.same_8.ensures ∙ c.if-not-same_8.true))
 
 pub loop-i-preserved : goal.loop-i-preserved
-loop-i-preserved c = let l = c.loop-i in (omega arith, same_next _ _ l.i 8 l.invariant.1 (sym c.same_8.ensures ∙ not-false _ c.if-not-same_8.false))
+loop-i-preserved c = let l = c.loop-i in (omega arith, same_next _ _ l.i 8 l.invariant.1 (sym c.same_8.ensures ∙ c.if-not-same_8.false))
 
 pub loop-i-2-init : goal.loop-i-2-init
 loop-i-2-init c = c.loop-i.invariant
