@@ -10,7 +10,6 @@ use native.Mathlib.Decide.{dec_lt}
 use native.Mathlib.Omega.{arith}
 use lib.ListN.{get_or}
 use Rattle.outcomes.specs.Outcomes.{bare, Outcome, answered, found_or}
-use Rattle.outcomes.proofs.Laws.{found}
 use Rattle.same_bytes.specs.Same.{same}
 use Rattle.same_bytes.proofs.Strings.{same_exactly}
 use Rattle.choice.specs.declared.Want.{Want}

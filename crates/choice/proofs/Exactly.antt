@@ -3,12 +3,11 @@
 use Prim.Native.Nat.{ℕ, ◌<◌}
 use mathlib.Core.Path.{◌≡◌, refl, sym, ◌∙◌}
 use mathlib.Core.Logic.Iff
-use mathlib.Core.Logic.{◌⊎◌, inl, inr, ⊎_elim, ◌↔◌}
+use mathlib.Core.Logic.{inl, inr, ⊎_elim, ◌↔◌}
 use mathlib.Core.Bool.{Bool, true, false}
 use native.Mathlib.Decide.{dec_lt}
 use native.Mathlib.Omega.{arith}
 use borrow.Author.Tests.{lt-ltb, le-ltb}
-use Rattle.outcomes.proofs.Tests as tests
 use Rattle.choice.specs.declared.Want.{Want}
 use Rattle.choice.specs.Ranks.{Placed, differ, gap, numbers_of, before}
 use Rattle.choice.specs.Settled.{Difference, Nearer, AsNear, Before, matching_slope, nearer_width, nearer_weight, lower_weight, lower_slot}

@@ -2,7 +2,7 @@
 -- Assumes nothing.
 use Prim.Native.Nat.{ℕ, ◌+◌, ◌/◌, ◌%◌, ◌^◌, ◌<◌}
 use mathlib.Core.Path.{◌≡◌, refl, sym}
-use mathlib.Core.Bool.{Bool, true, false, cond, not, ◌||◌, and_false}
+use mathlib.Core.Bool.{Bool, true, false, cond, not, ◌||◌, and-false}
 use mathlib.Core.Option.{Option, none, some}
 use mathlib.Core.List.{[], ◌∷◌}
 use native.Mathlib.Nat.{div-one}
@@ -79,7 +79,7 @@ module _ (v : Values) where
 -- an fsType of 0 breaks neither rule 3 nor rule 4
 pub plain_type : (version : ℕ) → (type_broken 0 || rights_broken version 0) ≡ false
 unfolding type_broken rights_broken bit bits
-plain_type version = simp and_false
+plain_type version = simp and-false
 
 -- an fsSelection below 128 does not break rule 5
 pub plain_selection : (version x : ℕ) → x < 128 → selection_broken version x ≡ false
@@ -87,4 +87,4 @@ unfolding selection_broken bits
 plain_selection version x h =
     let high : x / 2 ^ 10 % 2 ^ 6 ≡ 0 = omega arith in
     let middle : x / 2 ^ 7 % 2 ^ 3 ≡ 0 = omega arith in
-    simp (high, middle, and_false)
+    simp (high, middle, and-false)

@@ -3,7 +3,7 @@
 use Prim.Native.Nat.{ℕ, zero, suc, ◌+◌, ◌-◌, ◌<◌, ◌≤◌, min}
 use native.Mathlib.Omega.{arith}
 use mathlib.Core.Path.{◌≡◌, refl}
-use mathlib.Core.Bool.{true, false, not, ◌&&◌, and_false}
+use mathlib.Core.Bool.{true, false, not, ◌&&◌, and-false}
 use mathlib.Core.Option.{none, some}
 use mathlib.Core.List.{List}
 use borrow.Author.Tests.{lt-ltb, le-ltb, eq-eqb, ne_eqb}
@@ -34,20 +34,20 @@ module _ (l : List ℕ) (i : ℕ) where
   module _ (j a : ℕ) (first : Read l i j a) where
     pub no_period : (char l j ≡ 46 → ⊥) → number_at l i ≡ none
     unfolding number_at is_number when period
-    no_period n = rw (← first.ends, ne_eqb (char l j) 46 n, and_false)
+    no_period n = rw (← first.ends, ne_eqb (char l j) 46 n, and-false)
 
     pub no_second : digit (char l (j + 1)) ≡ false → number_at l i ≡ none
     unfolding number_at is_number when
-    no_second e = rw (← first.ends, e, and_false)
+    no_second e = rw (← first.ends, e, and-false)
 
     pub first_large : 65535 ≤ a → number_at l i ≡ none
     unfolding number_at is_number when
-    first_large h = rw (large a (group_figure l i) first.held h, and_false)
+    first_large h = rw (large a (group_figure l i) first.held h, and-false)
 
     module _ (k b : ℕ) (second : Read l (j + 1) k b) where
       pub second_large : 65535 ≤ b → number_at l i ≡ none
       unfolding number_at is_number when
-      second_large h = rw (← first.ends, large b (group_figure l (j + 1)) second.held h, and_false)
+      second_large h = rw (← first.ends, large b (group_figure l (j + 1)) second.held h, and-false)
 
       pub yields : may_start l i ≡ true → char l j ≡ 46 → digit (char l (j + 1)) ≡ true → a < 65535 → b < 65535
           → number_at l i ≡ some (record { major = a; minor = b })
