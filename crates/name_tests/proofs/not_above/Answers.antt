@@ -1,5 +1,5 @@
 -- The first record follows none; the key of any other is compared with the one before it, by their numbers.
--- Assumes nothing.
+-- at most is below or equal
 use Prim.Native.Nat.{ℕ, ◌-◌, ◌<◌}
 use mathlib.Core.Path.{◌≡◌}
 use mathlib.Core.Bool.{◌||◌}
@@ -7,14 +7,11 @@ use native.Mathlib.Decide.{dec_lt, ℕ_discrete}
 use native.Mathlib.Omega.{arith}
 use lib.Dec.{ltb, leb, eqb}
 use borrow.Author.Tests.{lt-ltb, le-ltb, le-leb, lt-leb, eq-eqb, ne_eqb}
-use borrow.Author.Rules.{rules}
 use Rattle.bigendian.specs.Numbers.{Bytes}
 use Rattle.name_layout.proofs.Keys.{key_small, below_packed, same_packed}
 use Rattle.name_tests.specs.Tests.{below_before, equals_before}
-use Rattle.name_tests.proofs.not_above.Statement.{statement}
-use Rattle.name_tests.proofs.not_above.Tie as tie
+use Rattle.name_tests.proofs.not_above.Goals as goal
 
--- at most is below or equal
 at_most_is : (a b : ℕ) → (ltb a b || eqb a b) ≡ leb a b
 at_most_is a b = by (dec_lt a b) (ℕ_discrete a b)
   where
@@ -23,21 +20,15 @@ at_most_is a b = by (dec_lt a b) (ℕ_discrete a b)
     by (no l) (yes e) = simp (le-ltb a b (omega arith), eq-eqb _ _ e, le-leb a b (omega arith))
     by (no l) (no e) = simp (le-ltb a b (omega arith), ne_eqb _ _ e, lt-leb a b (omega arith))
 
-returns : tie.Need-returns
+pub returns-then-i-gt0 : goal.returns-then-i-gt0
 unfolding below_before equals_before
-returns c =
-    let k = c.before.before.before in
-    let t = k.before.args.table.now in
-    let i = k.before.args.i in
-    let b : Bytes t = λ j. omega (arith, k.shared-slice-known.given j) in
+returns-then-i-gt0 c = let t = c.args.table.now in
+    let i = c.args.i in
+    let b : Bytes t = λ j. omega (arith, c.type_inv.table j) in
     let here = key_small t b i in
     let last = key_small t b (i - 1) in
-    simp (lt-ltb _ _ c.before.before.if1.true, below_packed here last, same_packed here last, at_most_is, ← c.before.key-at.ensures, ← c.key-at2.ensures)
+    simp (lt-ltb _ _ c.if-i-gt0.true, below_packed here last, same_packed here last, at_most_is, ← c.key_at.ensures, ← c.key_at-then-i-gt0.ensures)
 
-returns-2 : tie.Need-returns-2
+pub returns-else-i-gt0 : goal.returns-else-i-gt0
 unfolding below_before equals_before
-returns-2 c = simp (le-ltb _ _ c.if1.false)
-
-pub not_above_spec : {M : Type 1} → statement M
-not_above_spec =
-    tie.close (tie.spec (λ c κs. search rules) (λ c. search rules) (λ c κs. search rules) returns returns-2)
+returns-else-i-gt0 c = simp (le-ltb _ _ c.if-i-gt0.false)
