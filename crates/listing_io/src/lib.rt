@@ -2,7 +2,7 @@
 // No contract can say what a call of the operating system reads or writes: what is read has a bound, and where the next line goes is said.
 #![tactic(auto)]
 
-ghost use Rattle.std.specs.Prelude.{◌+◌, ◌≤◌, length, ◌≡◌};
+ghost use Rattle.std.specs.Prelude.{◌+◌, ◌≤◌, length, ◌≡◌, IfSome};
 ghost use Rattle.lines.specs.Pieces.{line_room};
 ghost use Rattle.listing_io.specs.Inputs.{Within, behind};
 
@@ -11,6 +11,12 @@ use std::env::FillError;
 use std::io::{ErrorKind, Read};
 use std::rt::Env;
 use std::{fs, io, str};
+
+// Linux's number of "Invalid argument".
+const EINVAL: i32 = 22;
+
+// Linux's number of "File name too long".
+const ENAMETOOLONG: i32 = 36;
 
 // What was read.
 #[derive(Drop)]
@@ -31,10 +37,31 @@ pub fn read_table(rt: &HostRuntime, i: usize, room: &mut [u8]) -> Input
     match rt.arg(i, &mut path) {
         Ok(n) => read_file(rt, &path[..n], room),
         Err(FillError::NotPresent) => read_from(rt, &mut rt.stdin(), b"standard input", room),
-        Err(FillError::TooLong) => {
-            fail(rt, b"path", io::Error::from(ErrorKind::InvalidFilename));
+        Err(why) => {
+            fail(rt, b"path", unfilled(why));
             Input::Unread
         }
+    }
+}
+
+// Puts argument i at the room's start and answers its length, or says why it cannot.
+pub fn argument(rt: &HostRuntime, i: usize, what: &[u8], room: &mut [u8]) -> Option<usize>
+    ensures { IfSome result (λ n. n ≤ length room.new) }
+{
+    match rt.arg(i, room) {
+        Ok(n) => Some(n),
+        Err(why) => {
+            fail(rt, what, unfilled(why));
+            None
+        }
+    }
+}
+
+// The system's error for an argument that is missing or too long.
+fn unfilled(why: FillError) -> io::Error {
+    match why {
+        FillError::NotPresent => io::Error::from_raw_os_error(EINVAL),
+        FillError::TooLong => io::Error::from_raw_os_error(ENAMETOOLONG),
     }
 }
 
@@ -43,7 +70,11 @@ fn read_file(rt: &HostRuntime, path: &[u8], room: &mut [u8]) -> Input
     ensures { Within result (length room.new) }
 {
     let Ok(name) = str::from_utf8(path) else {
-        fail(rt, path, io::Error::from(ErrorKind::InvalidFilename));
+        fail(
+            rt,
+            path,
+            io::Error::new(ErrorKind::InvalidFilename, "not UTF-8"),
+        );
         return Input::Unread;
     };
     match fs::open(rt, name) {
@@ -126,7 +157,7 @@ fn fail(rt: &HostRuntime, what: &[u8], why: io::Error) {
     let _ = eprintln!(rt; ": {why}");
 }
 
-// Writes to standard error. Where that fails too, nothing is left to say it on.
-fn say(rt: &HostRuntime, bytes: &[u8]) {
+// Writes to standard error. Where that fails, nothing is left to say it on.
+pub fn say(rt: &HostRuntime, bytes: &[u8]) {
     let _ = rt.stderr().write_all(bytes);
 }
