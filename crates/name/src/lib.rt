@@ -5,7 +5,7 @@
 
 ghost use Rattle.std.specs.Prelude.{◌≡◌, true, false, ◌+◌, ◌/◌, ◌%◌, ◌≤◌, ◌<◌};
 ghost use Rattle.std.proofs.Math.Option.{none};
-ghost use Rattle.outcomes.specs.Firsts.{first_of};
+ghost use Rattle.outcomes.specs.Firsts.{first_among};
 ghost use Rattle.outcomes.specs.Outcomes.{refusal_of};
 ghost use Rattle.name_layout.specs.Layout.{count, tag_count};
 ghost use Rattle.name_tests.specs.Steps.{Framed};
@@ -145,7 +145,7 @@ fn layout_fault(table: &[u8]) -> Verdict
 // The first fault of the records: none where the quick pass finds none, else the exact pass says.
 fn record_faults(table: &[u8]) -> Verdict
     requires { Framed table.now }
-    ensures { said_fault result ≡ first_of (record_fault table.now) (count table.now) }
+    ensures { said_fault result ≡ first_among (record_fault table.now) (count table.now) }
 {
     if surely_sound(table) {
         return Verdict::Accepted;
@@ -157,7 +157,7 @@ fn record_faults(table: &[u8]) -> Verdict
 // format and no platform refuses. What a turn reads of a record the next turn looks at, so that each read stays one load of a whole word.
 fn surely_sound(table: &[u8]) -> bool
     requires { Framed table.now }
-    ensures { result ≡ true → first_of (record_fault table.now) (count table.now) ≡ none }
+    ensures { result ≡ true → first_among (record_fault table.now) (count table.now) ≡ none }
 {
     let start = storage_start(table) as usize;
     if table.len() < start {
@@ -208,7 +208,7 @@ fn out_of_order(i: usize, last: u64, here: u64) -> bool
 // The first fault of the records, by looking at each in turn.
 fn exact_faults(table: &[u8]) -> Verdict
     requires { Framed table.now }
-    ensures { said_fault result ≡ first_of (record_fault table.now) (count table.now) }
+    ensures { said_fault result ≡ first_among (record_fault table.now) (count table.now) }
 {
     let count = record_count(table) as usize;
     let mut i = 0;
@@ -224,7 +224,7 @@ fn exact_faults(table: &[u8]) -> Verdict
 // The first fault of the tags.
 fn tag_faults(table: &[u8]) -> Verdict
     requires { Framed table.now }
-    ensures { said_fault result ≡ first_of (tag_fault table.now) (tag_count table.now) }
+    ensures { said_fault result ≡ first_among (tag_fault table.now) (tag_count table.now) }
 {
     let count = tag_count(table) as usize;
     let mut i = 0;

@@ -119,9 +119,9 @@ module _ (left right : List ℕ) (k : Both left right) where
         skip (difference_at left right) r.bound x h (λ y l q. neither y (omega arith) l (λ t. omega (arith, f t)) (λ t. omega (arith, g t))) in
         rw (add-one, s, e, r.is)
 
-    pub left_only : key_at left i < key_count → i < count left → (j < count right → key_at left i < key_at right j) → Reached left right (i + 1) j (out ++ passed (key_at left i) 1)
+    pub left_only_lem : key_at left i < key_count → i < count left → (j < count right → key_at left i < key_at right j) → Reached left right (i + 1) j (out ++ passed (key_at left i) 1)
     unfolding which_of
-    left_only m h g =
+    left_only_lem m h g =
         let x = key_at left i in
         let b = r.on_left.from i (omega arith) h in
         let d = differs_at x m (at_left h) (on_right_lem x b g) in
@@ -133,9 +133,9 @@ module _ (left right : List ℕ) (k : Both left right) where
           is = least x m b (λ q. omega arith) (λ q. omega (arith, g q)) (ap entry_of d ∙ passes_left x);
         }
 
-    pub right_only : key_at right j < key_count → j < count right → (i < count left → key_at right j < key_at left i) → Reached left right i (j + 1) (out ++ passed (key_at right j) 2)
+    pub right_only_lem : key_at right j < key_count → j < count right → (i < count left → key_at right j < key_at left i) → Reached left right i (j + 1) (out ++ passed (key_at right j) 2)
     unfolding which_of
-    right_only m h g =
+    right_only_lem m h g =
         let x = key_at right j in
         let b = r.on_right.from j (omega arith) h in
         let d = differs_at x m (on_left_lem x b g) (at_right x h refl) in

@@ -22,7 +22,7 @@ use Rattle.name_compare.specs.Comparisons.{blame_of, compared_of, room_of}
 use Rattle.name_compare.specs.Steps.{key_at, Both, passed}
 use Rattle.name_compare.specs.Examples.{left, right, Listed, AnswersHold, RoomsHold}
 use Rattle.name_compare.proofs.KeyNumbers.{key_below}
-use Rattle.name_compare.proofs.Merges.{passes_same, passes_other, started, left_only, right_only, in_both_lem, finished}
+use Rattle.name_compare.proofs.Merges.{passes_same, passes_other, started, left_only_lem, right_only_lem, in_both_lem, finished}
 
 -- a list of which each number is below 256 is bytes
 abbrev small : List ℕ → Bool
@@ -53,10 +53,10 @@ first_left = omega arith
 pub listed : Listed
 unfolding number key_of bytes_of same passed key_numbered
 listed =
-    let a = left_only left right both (started left right) (key_below left left_bytes_lem 0) (omega arith) (λ h. first_left) in
+    let a = left_only_lem left right both (started left right) (key_below left left_bytes_lem 0) (omega arith) (λ h. first_left) in
     let b = in_both_lem left right both a (key_below left left_bytes_lem 1) (omega arith) (omega arith) refl 3 (passes_other (key_at left 1) (same (bytes_of left 1) (bytes_of right 0)) refl) in
     let c = in_both_lem left right both b (key_below left left_bytes_lem 2) (omega arith) (omega arith) refl 0 (passes_same (key_at left 2) (same (bytes_of left 2) (bytes_of right 1)) refl) in
-    let d = right_only left right both c (key_below right right_bytes_lem 2) (omega arith) (λ h. absurd (omega arith)) in
+    let d = right_only_lem left right both c (key_below right right_bytes_lem 2) (omega arith) (λ h. absurd (omega arith)) in
     sym (finished left right both d (omega arith) (omega arith))
 
 pub answers_hold : AnswersHold

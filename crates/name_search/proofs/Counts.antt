@@ -53,20 +53,20 @@ module _ (key : ℕ → Key) (k : Key) where
       (λ c. settles turns (middle low high + 1) high (omega arith) (omega arith))
       (λ c. settles turns low (middle low high) (omega arith) (omega arith))
 
-  settled_is : {low high n : ℕ} (turns : ℕ) → high ≤ low + turns → Steps key k low high n → n ≡ looked turns low high
+  settled_is : (turns : ℕ) {low high n : ℕ} → high ≤ low + turns → Steps key k low high n → n ≡ looked turns low high
   unfolding looks turn
   settled_is zero h (meets e) = refl
-  settled_is {low} {high} (suc turns) h (meets e) = rw ((tests.not_below low high).1 (omega arith)) refl
+  settled_is (suc turns) {low} {high} h (meets e) = rw ((tests.not_below low high).1 (omega arith)) refl
   settled_is zero h (ends l m e) = absurd (omega arith)
-  settled_is {low} {high} (suc turns) h (ends l m e) = rw ((tests.below low high).1 l, (same_is _ k).1 (rw (half_is low high _ m) at e)) refl
+  settled_is (suc turns) {low} {high} h (ends l m e) = rw ((tests.below low high).1 l, (same_is _ k).1 (rw (half_is low high _ m) at e)) refl
   settled_is zero h (moves_low l m b s) = absurd (omega arith)
-  settled_is {low} {high} (suc turns) h (moves_low l m b s) =
+  settled_is (suc turns) {low} {high} h (moves_low l m b s) =
       let z = half_is low high _ m in
       let c = rw z at b in
       rw ((tests.below low high).1 l, (tests.fails _ (same_is _ k)).1 (λ e. key_irreflexive e c), (below_is _ k).1 c)
       (ap (λ x. x + 1) (settled_is turns (omega arith) (rw z at s)))
   settled_is zero h (moves_high l m b s) = absurd (omega arith)
-  settled_is {low} {high} (suc turns) h (moves_high l m b s) =
+  settled_is (suc turns) {low} {high} h (moves_high l m b s) =
       let z = half_is low high _ m in
       let c = (above_is k _).1 (rw z at b) in
       rw ((tests.below low high).1 l, c.1, c.0) (ap (λ x. x + 1) (settled_is turns (omega arith) (rw z at s)))
@@ -97,4 +97,4 @@ module _ (key : ℕ → Key) (k : Key) where
   -- "is 0 for an empty table"
   pub empty : {n : ℕ} → Steps key k 0 0 n → n ≡ 0
   unfolding looks turn
-  empty s = settled_is {low = 0} {high = 0} 0 (omega arith) s
+  empty s = settled_is 0 {low = 0} {high = 0} (omega arith) s

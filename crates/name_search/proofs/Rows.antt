@@ -1,7 +1,7 @@
 -- What a search found, written out: by computing.
 -- Assumes nothing.
 use mathlib.Core.Path.{◌≡◌, refl}
-use mathlib.Core.Option.{Option, none, some}
+use mathlib.Core.Option.{none, some}
 use mathlib.Core.List.{[], ◌∷◌, map}
 use Rattle.name_search.specs.declared.Found.TheVariants.{Record, Nothing}
 use Rattle.name_search.specs.Searches.{found_of}

@@ -11,7 +11,7 @@ use mathlib.Core.Logic.{◌↔◌, ◌⊎◌, inl, inr, ⊎_elim}
 use lib.Dec.{eqb}
 use lib.ListN.{length, drop}
 use borrow.Author.Tests.{not-true, ltb-true}
-use Rattle.outcomes.specs.Firsts.{when, first_among}
+use Rattle.outcomes.specs.Firsts.{when}
 use Rattle.outcomes.specs.Outcomes.{bare, Outcome, refused, answered, unless, found_or}
 use Rattle.outcomes.proofs.Tests.{equal, and_true, fails}
 use Rattle.outcomes.proofs.Laws.{when_none, when_some, first_all, first_exactly, unless_answered}

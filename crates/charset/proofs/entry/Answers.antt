@@ -1,23 +1,25 @@
 -- The word that is read is the one at the code's number divided by 64; the entry in it is the definition's answer, since the table allows exactly document 01's characters.
--- each arm reads the word of its codes
-use Prim.Native.Nat.{ℕ, ◌/◌}
-use borrow.Author.Rules.{rules}
+use Prim.Native.Nat.{ℕ, ◌/◌, ◌<◌}
 use native.Mathlib.Omega.{arith}
 use mathlib.Core.Path.{◌≡◌, ◌∙◌, sym, ap}
-use mathlib.Core.Logic.{⊎_elim}
 use lib.ListN.{get_or}
 use Rattle.charset.specs.Table.{entry_of}
 use Rattle.charset.proofs.Table.{settles}
 use Rattle.charset.proofs.entry.Goals as goal
+use Rattle.charset.proofs.entry.Goals.{in-0, in-1, in-2, in_default}
 
 pub returns : goal.returns
 unfolding entry_of
-returns c = rw ((let h : c.match-code-div64.word ≡ get_or c.args.entries (c.args.code / 64) 0 = let word : ℕ → ℕ = λ n. get_or c.args.entries n 0 in
-    ⊎_elim
-    (λ w. w.1 ∙ sym (ap word w.0.keys1))
-    (⊎_elim
-    (λ w. w.1 ∙ sym (ap word w.0.keys2))
-    (⊎_elim
-    (λ w. w.1 ∙ sym (ap word w.0.keys3))
-    (λ w. let last : c.args.code / 64 ≡ 3 = omega (arith, w.0.rest) in w.1 ∙ sym (ap word last))))
-    c.match-code-div64.branch in h)) (settles c.args.entries c.requires c.args.code (search rules))
+returns c =
+    let word : ℕ → ℕ = λ n. get_or c.args.entries n 0 in
+    let at = c.args.code / 64 in
+    -- each arm reads the word of its codes
+    let is : c.match-code-div64.word ≡ word at =
+    elim c.match-code-div64.branch [
+      | in-0 w ↦ let k : at ≡ 0 = omega arith in w.word-is ∙ sym (ap word k)
+      | in-1 w ↦ let k : at ≡ 1 = omega arith in w.word-is ∙ sym (ap word k)
+      | in-2 w ↦ let k : at ≡ 2 = omega arith in w.word-is ∙ sym (ap word k)
+      | in_default w ↦ let k : at ≡ 3 = omega arith in w.word-is ∙ sym (ap word k)
+    ] in
+    let small : c.args.code < 256 = omega arith in
+    rw is (settles c.args.entries c.requires c.args.code small)

@@ -1,0 +1,47 @@
+-- A refusal is passed on; past the check the table is accepted, and the search finds the record that has the key or none.
+use mathlib.Core.Path.{sym, ◌∙◌, ap}
+use Rattle.outcomes.specs.Outcomes.{answered}
+use Rattle.outcomes.proofs.Laws.{passed_on, not_refused, found, not_found}
+use Rattle.name.proofs.Acceptances.{accepted_none, refused_some, record_inside}
+use Rattle.name_search.specs.Searches.{found_of}
+use Rattle.name_search.proofs.Finds.{find_has}
+use Rattle.name_lookup.specs.Answers.{lookup_of}
+use Rattle.name_lookup.proofs.Reports.{looked_refused, looked_accepted}
+use Rattle.name_lookup.proofs.lookup.Goals as goal
+
+pub returns-in-Refused : goal.returns-in-Refused
+unfolding lookup_of
+returns-in-Refused c =
+    let e = refused_some _ c.check.ensures c.in-Refused.is in
+    record { answer = sym (passed_on _ e); looked = sym (looked_refused _ _ e) }
+
+-- past its check the table is accepted
+pub find_any-search-requires : goal.find_any-search-requires
+find_any-search-requires c = accepted_none _ c.check.ensures c.in_default.is
+
+-- what the search found
+pub text_of-requires : goal.text_of-requires
+text_of-requires c =
+    let accepted = accepted_none _ c.check.ensures c.in_default.is in
+    let at = sym c.find_any-search.ensures.found ∙ ap found_of c.in-Record.is in
+    record_inside _ accepted _ (find_has _ _ at).inside
+
+pub returns-in-Record : goal.returns-in-Record
+unfolding lookup_of
+returns-in-Record c =
+    let accepted = accepted_none _ c.check.ensures c.in_default.is in
+    let at = sym c.find_any-search.ensures.found ∙ ap found_of c.in-Record.is in
+    record {
+      answer = ap answered c.text_of.ensures ∙ sym (not_refused _ accepted ∙ found _ _ at);
+      looked = c.find_any-search.ensures.looked ∙ sym (looked_accepted _ _ accepted);
+    }
+
+pub returns-in-Nothing : goal.returns-in-Nothing
+unfolding lookup_of
+returns-in-Nothing c =
+    let accepted = accepted_none _ c.check.ensures c.in_default.is in
+    let nowhere = sym c.find_any-search.ensures.found ∙ ap found_of c.in-Nothing.is in
+    record {
+      answer = sym (not_refused _ accepted ∙ not_found _ _ nowhere);
+      looked = c.find_any-search.ensures.looked ∙ sym (looked_accepted _ _ accepted);
+    }
