@@ -6,101 +6,86 @@
 ghost use Rattle.std.specs.Prelude.{◌≡◌};
 
 use level::{Level, LevelAnswer};
-use libc::{STDIN_FILENO, STDOUT_FILENO};
+use std::io;
 use version_text::Version;
 
-fn main() {
-    levels();
-    characters_allowed();
-    let mut lines = io::buffer();
-    let n = io::read_full(STDIN_FILENO, &mut lines);
-    rows(&lines[..n]);
-    long_row();
+fn main(rt: HostRuntime) -> io::Result<()> {
+    levels(&rt)?;
+    characters_allowed(&rt)?;
+    let mut lines = [0u8; 4096];
+    let n = listing_io::read_full(&mut rt.stdin(), &mut lines);
+    rows(&rt, &lines[..n])?;
+    long_row(&rt)
 }
 
 // A row for each of some numbers.
-fn levels() {
-    level_row(0);
-    level_row(1);
-    level_row(2);
-    level_row(3);
-    level_row(4);
-    level_row(5);
-    level_row(6);
-    level_row(4294967295);
+fn levels(rt: &impl Print) -> io::Result<()> {
+    level_row(rt, 0)?;
+    level_row(rt, 1)?;
+    level_row(rt, 2)?;
+    level_row(rt, 3)?;
+    level_row(rt, 4)?;
+    level_row(rt, 5)?;
+    level_row(rt, 6)?;
+    level_row(rt, 4294967295)
 }
 
 // The number, and the bytes of the level's table or the refusal's number.
-fn level_row(number: u32) {
-    io::print_decimal(STDOUT_FILENO, number as u64);
+fn level_row(rt: &impl Print, number: u32) -> io::Result<()> {
     match Level::new(number) {
-        LevelAnswer::Known(known) => {
-            io::write_all(STDOUT_FILENO, b" table size ");
-            io::print_decimal(STDOUT_FILENO, known.table_size() as u64);
-        }
-        LevelAnswer::Refused => {
-            io::write_all(STDOUT_FILENO, b" refused 1");
-        }
+        LevelAnswer::Known(known) => println!(rt; "{number} table size {}", known.table_size()),
+        LevelAnswer::Refused => println!(rt; "{number} refused 1"),
     }
-    io::write_all(STDOUT_FILENO, b"\n");
 }
 
 // A row for each line of the input.
-fn rows(lines: &[u8]) {
+fn rows(rt: &impl Print, lines: &[u8]) -> io::Result<()> {
     let mut start = 0;
     let mut at = 0;
     while at < lines.len() {
         if lines[at] == b'\n' {
-            text_row(&lines[start..at]);
+            text_row(rt, &lines[start..at])?;
             start = at + 1;
         }
         at += 1;
     }
+    Ok(())
 }
 
 // A text as long as a record allows: one digit group.
-fn long_row() {
+fn long_row(rt: &impl Print) -> io::Result<()> {
     let sevens = [b'7'; 65535];
-    row(b"65,535 sevens", &sevens);
+    row(rt, b"65,535 sevens", &sevens)
 }
 
-fn text_row(text: &[u8]) {
-    io::write_all(STDOUT_FILENO, b"`");
-    io::write_all(STDOUT_FILENO, text);
-    row(b"`", text);
+fn text_row(rt: &impl Print, text: &[u8]) -> io::Result<()> {
+    rt.write_all(b"`")?;
+    rt.write_all(text)?;
+    row(rt, b"`", text)
 }
 
-fn row(label: &[u8], text: &[u8]) {
-    io::write_all(STDOUT_FILENO, label);
+fn row(rt: &impl Print, label: &[u8], text: &[u8]) -> io::Result<()> {
+    rt.write_all(label)?;
     match version_text::version_of(text, false) {
-        Version::Number { major, minor } => {
-            io::write_all(STDOUT_FILENO, b" version ");
-            io::print_decimal(STDOUT_FILENO, major as u64);
-            io::write_all(STDOUT_FILENO, b" ");
-            io::print_decimal(STDOUT_FILENO, minor as u64);
-        }
-        Version::NoNumber => {
-            io::write_all(STDOUT_FILENO, b" version refused 25");
-        }
+        Version::Number { major, minor } => println!(rt; " version {major} {minor}"),
+        Version::NoNumber => println!(rt; " version refused 25"),
     }
-    io::write_all(STDOUT_FILENO, b"\n");
 }
 
 // The characters of a PostScript name, and how many they are.
-fn characters_allowed() {
-    write_allowed();
-    io::write_all(STDOUT_FILENO, b"\n");
-    io::print_decimal(STDOUT_FILENO, count_allowed());
-    io::write_all(STDOUT_FILENO, b" characters\n");
+fn characters_allowed(rt: &impl Print) -> io::Result<()> {
+    write_allowed(rt)?;
+    println!(rt; "\n{} characters", count_allowed())
 }
 
-fn write_allowed() {
+fn write_allowed(rt: &impl Print) -> io::Result<()> {
     for code in 0u32..256 {
         let byte = code as u8;
         if charset::is_allowed(byte) {
-            io::write_all(STDOUT_FILENO, &[byte]);
+            rt.write_all(&[byte])?;
         }
     }
+    Ok(())
 }
 
 fn count_allowed() -> u64

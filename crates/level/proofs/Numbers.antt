@@ -1,10 +1,9 @@
 -- The levels of the code, each with its number, refusal 1, and what a word gives, written out: by computing.
 -- Assumes nothing.
-use Prim.Native.Nat.{ℕ}
 use mathlib.Core.Path.{◌≡◌, refl}
-use mathlib.Core.Option.{Option, none, some}
-use mathlib.Core.List.{List, [], ◌∷◌, map}
-use Rattle.outcomes.specs.Outcomes.{Outcome, refused, answered}
+use mathlib.Core.Option.{none, some}
+use mathlib.Core.List.{[], ◌∷◌, map}
+use Rattle.outcomes.specs.Outcomes.{refused, answered}
 use Rattle.outcomes.specs.Firsts.{when}
 use Rattle.characters.specs.Texts.{codes}
 use Rattle.characters.specs.Digits.{digit, all_digits}

@@ -8,7 +8,7 @@ ghost use Rattle.level.specs.Sizes.{table_size};
 ghost use Rattle.level.specs.Words.{level_in, said_word};
 
 // A level, document 01's term. There are these six and no others.
-#[derive(Drop)]
+#[derive(Clone, Copy)]
 pub enum Level {
     // 0
     Oldest,

@@ -30,7 +30,7 @@ const RECORD_SIZE: usize = 12;
 
 // One entry: the four numbers of its key, and where its text lies in the pool.
 #[repr(C)]
-#[derive(Drop)]
+#[derive(Clone, Copy)]
 pub struct Entry {
     pub platform: u16,
     pub encoding: u16,
@@ -91,7 +91,7 @@ const WRITING: u64 = 1;
 
 // What is carried from entry to entry, in whole words: the stage, the entry that a refusal carries, the key of the entry before, and the offset of the next
 // string beside the number of entries.
-#[derive(Drop)]
+#[derive(Clone, Copy)]
 pub struct Work {
     pub stage: u64,
     pub entry: usize,

@@ -1,8 +1,7 @@
 -- The refusals of the code, each with its number and what it carries, written out as document 01's table has them: by computing.
 -- Assumes nothing.
-use Prim.Native.Nat.{ℕ}
 use mathlib.Core.Path.{◌≡◌, refl}
-use mathlib.Core.Option.{Option, none, some}
+use mathlib.Core.Option.{none, some}
 use mathlib.Core.List.{List, [], ◌∷◌, map}
 use Rattle.outcomes.specs.Outcomes.{bare, refused, accepted, unless}
 use Rattle.os2_acceptance.specs.declared.Refusal.{Refusal}

@@ -1,7 +1,7 @@
 -- The answers of the code, a value, absent and not known, each in its words: by computing.
 -- Assumes nothing.
 use mathlib.Core.Path.{◌≡◌, refl}
-use mathlib.Core.List.{List, [], ◌∷◌, map}
+use mathlib.Core.List.{[], ◌∷◌, map}
 use lib.IntN.{pos, negsuc}
 use lib.Ieee.{Float}
 use Rattle.os2_style.specs.declared.EmbeddingRights.TheVariants.{Editable}
@@ -11,7 +11,7 @@ use Rattle.os2_answers.specs.declared.Answer.TheVariants as Answer·
 use Rattle.os2_answers.specs.declared.RightsAnswer.TheVariants as RightsAnswer·
 use Rattle.os2_answers.specs.declared.StyleAnswer.TheVariants as StyleAnswer·
 use Rattle.os2_answers.specs.declared.OpticalAnswer.TheVariants as OpticalAnswer·
-use Rattle.os2_answers.specs.Values.{integer, rights, position, sizes, Said, value, absent, not_known}
+use Rattle.os2_answers.specs.Values.{integer, rights, position, sizes, value, absent, not_known}
 use Rattle.os2_answers.specs.Replies.{said_answer, said_rights_answer, said_style_answer, said_optical_answer}
 
 pub answers : map said_answer (Answer·.Value (pos 400) ∷ Answer·.Value (negsuc 4) ∷ Answer·.Absent ∷ Answer·.NotKnown ∷ [])

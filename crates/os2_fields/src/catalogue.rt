@@ -4,7 +4,7 @@ ghost use Rattle.std.specs.Prelude.{◌≡◌, ◌+◌, ◌<◌};
 ghost use Rattle.os2_fields.specs.Catalogue.{catalogue, field_count, field_of};
 
 // A field: where it stands, its width in bytes, whether it is signed, and the version that it came in with.
-#[derive(Drop)]
+#[derive(Clone, Copy)]
 pub struct Field {
     pub offset: u8,
     pub width: u8,

@@ -1,7 +1,7 @@
 -- What is written holds each number's bytes at its field (Images), and a field's bytes and its whole number give each other (Codes); so the numbers
 -- that were written stand in the table, and the numbers in a table are written as its own bytes. The rules look at the same values on both ways.
 -- Assumes nothing.
-use Prim.Native.Nat.{ℕ, ◌<◌, ◌≤◌}
+use Prim.Native.Nat.{ℕ, ◌≤◌}
 use mathlib.Core.Path.{◌≡◌, refl, sym, ◌∙◌}
 use mathlib.Core.Bool.{true}
 use mathlib.Core.Option.{none}

@@ -1,7 +1,7 @@
 -- Refusal 8 with its field, written out: by computing.
 -- Assumes nothing.
 use mathlib.Core.Path.{◌≡◌, refl}
-use mathlib.Core.Option.{Option, none, some}
+use mathlib.Core.Option.{none, some}
 use mathlib.Core.List.{[], ◌∷◌, map}
 use Rattle.outcomes.specs.Firsts.{when}
 use Rattle.os2_store.specs.Storing.{misfit_found}

@@ -1,7 +1,7 @@
 -- What `write` answers is what document 01 settles: each of its tests is matched with its proposition, in their order.
 -- Assumes nothing.
-use Prim.Native.Nat.{ℕ, ◌/◌, ◌^◌, ◌<◌, ◌≤◌}
-use mathlib.Core.Path.{◌≡◌, refl, sym, ◌∙◌}
+use Prim.Native.Nat.{ℕ, ◌/◌, ◌^◌, ◌≤◌}
+use mathlib.Core.Path.{◌≡◌, refl, sym}
 use mathlib.Core.Logic.{◌↔◌}
 use mathlib.Core.Bool.{Bool, true, false, cond, ◌&&◌, false≢true, true≢false}
 use mathlib.Core.Option.{Option, none, some}
@@ -17,7 +17,6 @@ use Rattle.outcomes.proofs.Tests.{and_true, not_is, fails}
 use Rattle.level.specs.Levels.{newest}
 use Rattle.level.specs.Sizes.{table_size}
 use Rattle.os2_rules.specs.Tests.{verdict_of}
-use Rattle.os2_rules.specs.Rules.{FirstBroken}
 use Rattle.os2_rules.proofs.Exactly.{kept_exactly, broken_first, broken_exactly}
 use Rattle.os2_fields.specs.declared.catalogue.Field.{Field}
 use Rattle.os2_fields.specs.Catalogue.{field_count, field_of}

@@ -4,7 +4,7 @@ use Prim.Native.Nat.{ℕ, ◌<◌, ◌≤◌, zero-le}
 use mathlib.Core.Path.{◌≡◌, refl, sym, ap, ◌∙◌}
 use mathlib.Core.Logic.{◌↔◌}
 use mathlib.Core.Bool.{Bool, true, false, cond, not, true≢false}
-use mathlib.Core.Option.{Option, none, some}
+use mathlib.Core.Option.{Option, none}
 use mathlib.Core.List.{List}
 use native.Mathlib.Nat.{le_trans}
 use native.Mathlib.Omega.{arith}
@@ -13,7 +13,7 @@ use lib.ListN.{length, drop}
 use lib.IntN.{ℤ, pos, negsuc}
 use borrow.Author.Tests.{ltb-false, not-false}
 use Rattle.outcomes.specs.Firsts.{first_among}
-use Rattle.outcomes.specs.Outcomes.{Refusal, bare, carrying, Outcome, refused, answered, unless}
+use Rattle.outcomes.specs.Outcomes.{bare, carrying, Outcome, refused, answered}
 use Rattle.outcomes.proofs.Laws.{passed, then_none, none_exactly, unless_answered}
 use Rattle.outcomes.proofs.Tests.{and_false}
 use Rattle.level.specs.Levels.{newest}

@@ -6,7 +6,7 @@
 
 ghost use Rattle.std.specs.Prelude.{◌≡◌, ◌^◌, true, not, ◌&&◌, leb, length, pos};
 ghost use Rattle.bigendian.specs.Numbers.{stored};
-ghost use Rattle.outcomes.specs.Firsts.{first_of};
+ghost use Rattle.outcomes.specs.Firsts.{first_among};
 ghost use Rattle.os2_fields.specs.Catalogue.{field_count};
 ghost use Rattle.os2_store.specs.Writing.{fits, code_of, misfit_at, image};
 ghost use Rattle.os2_store.specs.Storing.{Storable, Ready, misfit_found};
@@ -17,7 +17,7 @@ use os2_fields::{FIELD_COUNT, Field};
 // The lowest field of the version that its number does not fit, or the number of fields.
 pub fn lowest_misfit(numbers: &[i64], version: u32) -> usize
     requires { length numbers.now ≡ field_count }
-    ensures { misfit_found result ≡ first_of (misfit_at version numbers.now) field_count }
+    ensures { misfit_found result ≡ first_among (misfit_at version numbers.now) field_count }
 {
     let fields = os2_fields::entries();
     let mut k: usize = 0;

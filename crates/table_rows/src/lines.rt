@@ -1,8 +1,8 @@
 // Reading a line of the input, and writing a piece of the output.
 ghost use Rattle.std.specs.Prelude.{◌≤◌, ◌<◌, length};
 
-use libc::STDOUT_FILENO;
 use outcomes::{Carried, Told};
+use std::io;
 
 // Where the line that starts at a place ends.
 pub fn line_end(lines: &[u8], start: usize) -> usize
@@ -83,20 +83,21 @@ fn with_figure(value: u32, character: u8, within: bool) -> u32 {
 }
 
 // Writes a number behind a text.
-pub fn numbered(before: &[u8], number: u64) {
-    text(before);
-    io::print_decimal(STDOUT_FILENO, number);
+pub fn numbered(rt: &impl Print, before: &[u8], number: u64) -> io::Result<()> {
+    text(rt, before)?;
+    print!(rt; "{number}")
 }
 
-pub fn text(s: &[u8]) {
-    io::write_all(STDOUT_FILENO, s);
+pub fn text(rt: &impl Print, s: &[u8]) -> io::Result<()> {
+    rt.write_all(s)
 }
 
 // A refusal, with what it carries.
-pub fn refused(why: Told) {
-    numbered(b"refused ", why.number as u64);
+pub fn refused(rt: &impl Print, why: Told) -> io::Result<()> {
+    numbered(rt, b"refused ", why.number as u64)?;
     let carried = why.carried;
     if let Carried::This(k) = carried {
-        numbered(b" at ", k as u64);
+        numbered(rt, b" at ", k as u64)?;
     }
+    Ok(())
 }

@@ -11,45 +11,46 @@ mod lines;
 mod name_rows;
 mod os2_rows;
 
-use libc::STDIN_FILENO;
 use lines::{byte_at, line_end, text};
+use std::io;
 
-fn main() {
-    let mut lines = io::large_buffer();
-    let n = io::read_full(STDIN_FILENO, &mut lines);
-    rows(&lines[..n]);
+fn main(rt: HostRuntime) -> io::Result<()> {
+    let mut lines = [0u8; 65536];
+    let n = listing_io::read_full(&mut rt.stdin(), &mut lines);
+    rows(&rt, &lines[..n])
 }
 
-fn rows(lines: &[u8]) {
+fn rows(rt: &impl Print, lines: &[u8]) -> io::Result<()> {
     let mut table = 0;
     let mut start = 0;
     while start < lines.len() {
         let end = line_end(lines, start);
         table = lines::latest_table(lines, start, table);
         let table_end = line_end(lines, table);
-        row(&lines[start..end], &lines[table..table_end]);
+        row(rt, &lines[start..end], &lines[table..table_end])?;
         start = end + 1;
     }
+    Ok(())
 }
 
 // Writes a line, and the answer where it is a question.
-fn row(line: &[u8], table: &[u8]) {
+fn row(rt: &impl Print, line: &[u8], table: &[u8]) -> io::Result<()> {
     let kind = byte_at(line, 0);
     if kind == b'=' {
-        return;
+        return Ok(());
     }
-    text(line);
+    text(rt, line)?;
     if kind != b'#' {
-        text(b": ");
-        answer(line, table);
+        text(rt, b": ")?;
+        answer(rt, line, table)?;
     }
-    text(b"\n");
+    text(rt, b"\n")
 }
 
-fn answer(question: &[u8], table: &[u8]) {
+fn answer(rt: &impl Print, question: &[u8], table: &[u8]) -> io::Result<()> {
     if byte_at(table, 2) == b'o' {
-        os2_rows::answer(question, table);
+        os2_rows::answer(rt, question, table)
     } else {
-        name_rows::answer(question, table);
+        name_rows::answer(rt, question, table)
     }
 }

@@ -5,33 +5,33 @@ use crate::lines::{byte_at, number, numbered, refused, text};
 use name::Verdict;
 use name_lookup::{Answer, Text};
 use name_strings::{PostscriptAnswer, VersionAnswer};
+use std::io;
 
 // Where the numbers start in a table's line, behind `= name `.
 const NUMBERS: usize = 7;
 
 // Writes the answer to a question on the table of a line.
-pub fn answer(question: &[u8], line: &[u8]) {
+pub fn answer(rt: &impl Print, question: &[u8], line: &[u8]) -> io::Result<()> {
     if byte_at(line, NUMBERS) == b'l' {
         let largest = largest_table();
-        ask(question, &largest);
-        return;
+        return ask(rt, question, &largest);
     }
     let bytes = packed(line);
     let size = packed_size(line);
-    ask(question, &bytes[..size]);
+    ask(rt, question, &bytes[..size])
 }
 
-fn ask(question: &[u8], table: &[u8]) {
+fn ask(rt: &impl Print, question: &[u8], table: &[u8]) -> io::Result<()> {
     match byte_at(question, 0) {
-        b'c' => verdict(name::check(table)),
-        b'l' => look_up(question, table),
-        b'p' => postscript(name_strings::postscript(table)),
-        _ => version(name_strings::version(table)),
+        b'c' => verdict(rt, name::check(table)),
+        b'l' => look_up(rt, question, table),
+        b'p' => postscript(rt, name_strings::postscript(table)),
+        _ => version(rt, name_strings::version(table)),
     }
 }
 
 // The string that has the four numbers of a line, and how many records were looked at.
-fn look_up(question: &[u8], table: &[u8]) {
+fn look_up(rt: &impl Print, question: &[u8], table: &[u8]) -> io::Result<()> {
     let platform = number(question, 1);
     let encoding = number(question, 2);
     let language = number(question, 3);
@@ -40,44 +40,44 @@ fn look_up(question: &[u8], table: &[u8]) {
     let found = looked_up.answer;
     let looked = looked_up.looked;
     match found {
-        Answer::Found(x) => string(x),
-        Answer::Refused(why) => refused(why.told()),
+        Answer::Found(x) => string(rt, x)?,
+        Answer::Refused(why) => refused(rt, why.told())?,
     }
-    numbered(b" looked ", looked as u64);
+    numbered(rt, b" looked ", looked as u64)
 }
 
-fn verdict(found: Verdict) {
+fn verdict(rt: &impl Print, found: Verdict) -> io::Result<()> {
     match found {
-        Verdict::Accepted => text(b"accepted"),
-        Verdict::Refused(why) => refused(why.told()),
+        Verdict::Accepted => text(rt, b"accepted"),
+        Verdict::Refused(why) => refused(rt, why.told()),
     }
 }
 
-fn postscript(found: PostscriptAnswer) {
+fn postscript(rt: &impl Print, found: PostscriptAnswer) -> io::Result<()> {
     match found {
-        PostscriptAnswer::Name(x) => string(x),
-        PostscriptAnswer::Refused(why) => refused(why.told()),
+        PostscriptAnswer::Name(x) => string(rt, x),
+        PostscriptAnswer::Refused(why) => refused(rt, why.told()),
     }
 }
 
-fn string(found: Text) {
-    numbered(b"start ", found.start as u64);
-    numbered(b" length ", found.len as u64);
-    numbered(b" record ", found.record as u64);
+fn string(rt: &impl Print, found: Text) -> io::Result<()> {
+    numbered(rt, b"start ", found.start as u64)?;
+    numbered(rt, b" length ", found.len as u64)?;
+    numbered(rt, b" record ", found.record as u64)
 }
 
-fn version(found: VersionAnswer) {
+fn version(rt: &impl Print, found: VersionAnswer) -> io::Result<()> {
     match found {
         VersionAnswer::Number {
             major,
             minor,
             record,
         } => {
-            numbered(b"", major as u64);
-            numbered(b" ", minor as u64);
-            numbered(b" record ", record as u64);
+            numbered(rt, b"", major as u64)?;
+            numbered(rt, b" ", minor as u64)?;
+            numbered(rt, b" record ", record as u64)
         }
-        VersionAnswer::Refused(why) => refused(why.told()),
+        VersionAnswer::Refused(why) => refused(rt, why.told()),
     }
 }
 

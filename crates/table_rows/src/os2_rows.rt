@@ -2,18 +2,18 @@
 ghost use Rattle.std.specs.Prelude.{◌≡◌, ◌≤◌, length};
 
 use crate::lines::{byte_at, last_word, number, numbered, refused, text};
-use libc::STDOUT_FILENO;
 use os2::{
     Answer, AnyReply, Checked, OpticalAnswer, OpticalReply, Question, Reply, RightsAnswer,
     RightsReply, StyleAnswer, StyleReply,
 };
 use os2_style::{EmbeddingRights, OpticalSizes};
+use std::io;
 
 // Writes the answer to a question on the table of a line.
-pub fn answer(question: &[u8], line: &[u8]) {
+pub fn answer(rt: &impl Print, question: &[u8], line: &[u8]) -> io::Result<()> {
     let bytes = table(line);
     let size = size_of(line);
-    ask(question, &bytes[..size]);
+    ask(rt, question, &bytes[..size])
 }
 
 // The length of a table, at most 100.
@@ -54,19 +54,18 @@ fn table(line: &[u8]) -> [u8; 100]
 }
 
 // A line ends with `at level` and the level, before which the question's own number stands.
-fn ask(line: &[u8], table: &[u8]) {
+fn ask(rt: &impl Print, line: &[u8], table: &[u8]) -> io::Result<()> {
     let last = last_word(line);
     let level = number(line, last);
     if byte_at(line, 4) == b'k' {
-        check(os2::check(table, level));
-        return;
+        return check(rt, os2::check(table, level));
     }
     let own = if last < 3 { 0 } else { number(line, last - 3) };
     match os2::ask(table, level, question(line, own)) {
-        AnyReply::Number(r) => field_or_bit(r),
-        AnyReply::Rights(r) => rights(r),
-        AnyReply::Style(r) => style(r),
-        AnyReply::Optical(r) => optical(r),
+        AnyReply::Number(r) => field_or_bit(rt, r),
+        AnyReply::Rights(r) => rights(rt, r),
+        AnyReply::Style(r) => style(rt, r),
+        AnyReply::Optical(r) => optical(rt, r),
     }
 }
 
@@ -83,75 +82,75 @@ fn question(line: &[u8], own: u32) -> Question {
     }
 }
 
-fn check(r: Checked) {
+fn check(rt: &impl Print, r: Checked) -> io::Result<()> {
     match r {
-        Checked::Accepted => text(b"accepted"),
-        Checked::Refused(why) => refused(why.told()),
+        Checked::Accepted => text(rt, b"accepted"),
+        Checked::Refused(why) => refused(rt, why.told()),
     }
 }
 
-fn field_or_bit(r: Reply) {
+fn field_or_bit(rt: &impl Print, r: Reply) -> io::Result<()> {
     match r {
-        Reply::Refused(why) => refused(why.told()),
+        Reply::Refused(why) => refused(rt, why.told()),
         Reply::Answered(a) => match a {
-            Answer::Absent => text(b"absent"),
-            Answer::NotKnown => text(b"not known"),
-            Answer::Value(x) => whole(x),
+            Answer::Absent => text(rt, b"absent"),
+            Answer::NotKnown => text(rt, b"not known"),
+            Answer::Value(x) => whole(rt, x),
         },
     }
 }
 
 // A number that is not negative, or that it is.
-fn whole(x: i64) {
+fn whole(rt: &impl Print, x: i64) -> io::Result<()> {
     if 0 <= x {
-        numbered(b"", x as u64);
+        numbered(rt, b"", x as u64)
     } else {
-        text(b"negative");
+        text(rt, b"negative")
     }
 }
 
-fn rights(r: RightsReply) {
+fn rights(rt: &impl Print, r: RightsReply) -> io::Result<()> {
     match r {
-        RightsReply::Refused(why) => refused(why.told()),
+        RightsReply::Refused(why) => refused(rt, why.told()),
         RightsReply::Answered(a) => match a {
-            RightsAnswer::Absent => text(b"absent"),
-            RightsAnswer::NotKnown => text(b"not known"),
+            RightsAnswer::Absent => text(rt, b"absent"),
+            RightsAnswer::NotKnown => text(rt, b"not known"),
             RightsAnswer::Value(x) => match x {
-                EmbeddingRights::Installable => text(b"installable"),
-                EmbeddingRights::Restricted => text(b"restricted"),
-                EmbeddingRights::Preview => text(b"preview"),
-                EmbeddingRights::Editable => text(b"editable"),
+                EmbeddingRights::Installable => text(rt, b"installable"),
+                EmbeddingRights::Restricted => text(rt, b"restricted"),
+                EmbeddingRights::Preview => text(rt, b"preview"),
+                EmbeddingRights::Editable => text(rt, b"editable"),
             },
         },
     }
 }
 
-fn style(r: StyleReply) {
+fn style(rt: &impl Print, r: StyleReply) -> io::Result<()> {
     match r {
-        StyleReply::Refused(why) => refused(why.told()),
+        StyleReply::Refused(why) => refused(rt, why.told()),
         StyleReply::Answered(a) => match a {
-            StyleAnswer::Absent => text(b"absent"),
-            StyleAnswer::NotKnown => text(b"not known"),
+            StyleAnswer::Absent => text(rt, b"absent"),
+            StyleAnswer::NotKnown => text(rt, b"not known"),
             StyleAnswer::Value(p) => {
-                float(b"weight ", p.weight);
-                float(b" width ", p.width);
+                float(rt, b"weight ", p.weight)?;
+                float(rt, b" width ", p.width)
             }
         },
     }
 }
 
-fn optical(r: OpticalReply) {
+fn optical(rt: &impl Print, r: OpticalReply) -> io::Result<()> {
     match r {
-        OpticalReply::Refused(why) => refused(why.told()),
+        OpticalReply::Refused(why) => refused(rt, why.told()),
         OpticalReply::Answered(a) => match a {
-            OpticalAnswer::Absent => text(b"absent"),
-            OpticalAnswer::NotKnown => text(b"not known"),
+            OpticalAnswer::Absent => text(rt, b"absent"),
+            OpticalAnswer::NotKnown => text(rt, b"not known"),
             OpticalAnswer::Value(x) => match x {
-                OpticalSizes::Every => text(b"every size"),
-                OpticalSizes::Upwards(low) => float(b"upwards from ", low),
+                OpticalSizes::Every => text(rt, b"every size"),
+                OpticalSizes::Upwards(low) => float(rt, b"upwards from ", low),
                 OpticalSizes::Between(low, high) => {
-                    float(b"between ", low);
-                    float(b" and ", high);
+                    float(rt, b"between ", low)?;
+                    float(rt, b" and ", high)
                 }
             },
         },
@@ -159,9 +158,9 @@ fn optical(r: OpticalReply) {
 }
 
 // A float behind a text, by its bits, as eight hexadecimal digits.
-fn float(before: &[u8], x: f32) {
-    text(before);
-    io::print_hex(STDOUT_FILENO, bits_of(x) as u64, 8);
+fn float(rt: &impl Print, before: &[u8], x: f32) -> io::Result<()> {
+    text(rt, before)?;
+    print!(rt; "{:08x}", bits_of(x))
 }
 
 // A float's bits. No answer is a float that differs from itself.

@@ -1,7 +1,5 @@
 -- Each return is where the chain of tests stops.
 use mathlib.Core.Path.{sym, ◌∙◌}
-use mathlib.Core.Bool.{false}
-use Rattle.os2_rules.specs.Tests.{weight_broken, width_broken}
 use Rattle.os2_rules.proofs.Laws.{kept_chain}
 use Rattle.os2_rules.proofs.keeps.Goals as goal
 
