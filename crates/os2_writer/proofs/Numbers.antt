@@ -1,9 +1,8 @@
 -- The refusals of the code, each with its number and what it carries, written out as document 01's table has them, and what came of writing and rewriting:
 -- by computing.
 -- Assumes nothing.
-use Prim.Native.Nat.{ℕ}
 use mathlib.Core.Path.{◌≡◌, refl}
-use mathlib.Core.Option.{Option, none, some}
+use mathlib.Core.Option.{none, some}
 use mathlib.Core.List.{List, [], ◌∷◌, map}
 use Rattle.outcomes.specs.Outcomes.{Refusal, refused, answered}
 use Rattle.os2_acceptance.specs.declared.Refusal.TheVariants as Reader·
@@ -12,7 +11,7 @@ use Rattle.os2_writer.specs.declared.Rewritten.{Rewritten}
 use Rattle.os2_writer.specs.declared.Rewritten.TheVariants.{Size, Unread, Unwritten}
 use Rattle.os2_writer.specs.declared.WriteRefusal.{WriteRefusal}
 use Rattle.os2_writer.specs.declared.WriteRefusal.TheVariants.{NoVersion, NoRoom, DoesNotFit, RuleBroken}
-use Rattle.os2_writer.specs.Rewriting.{Side, reader, writer, side_with}
+use Rattle.os2_writer.specs.Rewriting.{reader, writer, side_with}
 use Rattle.os2_writer.specs.Replies.{said_refusal, said_written, said_rewritten, side_of}
 
 abbrev refusals : List WriteRefusal

@@ -1,6 +1,5 @@
 -- The enums of the code in document 01's words and numbers, case by case.
 use Rattle.std.specs.Prelude.{ℕ}
-use Rattle.std.proofs.Math.Option.{some}
 use Rattle.outcomes.specs.Outcomes.{Refusal, bare, carrying, Outcome, refused, answered}
 use Rattle.os2_acceptance.specs.Replies as Reader·
 use Rattle.os2_writer.specs.Rewriting.{Side, reader, writer}
