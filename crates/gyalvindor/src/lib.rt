@@ -1,4 +1,4 @@
-// The readers, the comparison, the writers and the chooser for C and Rust: the functions of the static library, each answering in plain numbers.
+// The readers, the comparison, the writers and the chooser for C and Rust: the functions that `gyalvindor_c` exports, each answering in plain numbers.
 // Document 01, whole, and document 02, Asks 1 to 8; `include/gyalvindor.h` says the same to a C programmer.
 // Relies on `name`, `name_lookup`, `name_strings` and `name_writer`, on `os2` and `os2_writer`, on `name_compare`, `os2_compare` and `chooser`, which answer, and on
 // `name_words`, `name_writer_words`, `os2_words`, `compare_words` and `chooser_words`, which put an answer into words of C.
@@ -43,16 +43,14 @@ use os2_words::{
 use refusal_words::GvRefusal;
 
 // Whether a 'name' table is accepted.
-#[unsafe(no_mangle)]
-pub extern "C" fn gv_name_check(table: &[u8]) -> GvRefusal
+pub fn gv_name_check(table: &[u8]) -> GvRefusal
     ensures { result ≡ outcome_refusal (check_of table.now) }
 {
     verdict_words(name::check(table))
 }
 
 // The string of the record of a 'name' table with these four numbers, the record's number, and how many records were looked at.
-#[unsafe(no_mangle)]
-pub extern "C" fn gv_name_lookup(
+pub fn gv_name_lookup(
     table: &[u8],
     platform: u32,
     encoding: u32,
@@ -65,112 +63,98 @@ pub extern "C" fn gv_name_lookup(
 }
 
 // The PostScript name of a 'name' table, and the number of the platform 1 record that has it.
-#[unsafe(no_mangle)]
-pub extern "C" fn gv_name_postscript(table: &[u8]) -> GvText
+pub fn gv_name_postscript(table: &[u8]) -> GvText
     ensures { result ≡ text_words (postscript_of table.now) }
 {
     named_words(name_strings::postscript(table))
 }
 
 // The version number of a 'name' table, and the number of the record whose string it stands in.
-#[unsafe(no_mangle)]
-pub extern "C" fn gv_name_version(table: &[u8]) -> GvVersion
+pub fn gv_name_version(table: &[u8]) -> GvVersion
     ensures { result ≡ version_words (version_of table.now) }
 {
     version_words(name_strings::version(table))
 }
 
 // Writes the 'name' table of entries, with their texts in a pool, into lent room.
-#[unsafe(no_mangle)]
-pub extern "C" fn gv_name_write(entries: &[Entry], pool: &[u8], room: &mut [u8]) -> GvWritten
+pub fn gv_name_write(entries: &[Entry], pool: &[u8], room: &mut [u8]) -> GvWritten
     ensures { (result ≡ written_words (naming.write_of entries.now (length pool.now) (length room.old))) × (room.new ≡ naming.room_after entries.now pool.now room.old) }
 {
     name_written_words(name_writer::write(entries, pool, room))
 }
 
 // Whether a level accepts an 'OS/2' table.
-#[unsafe(no_mangle)]
-pub extern "C" fn gv_os2_check(table: &[u8], level: u32) -> GvRefusal
+pub fn gv_os2_check(table: &[u8], level: u32) -> GvRefusal
     ensures { result ≡ outcome_refusal (checked level table.now) }
 {
     checked_words(os2::check(table, level))
 }
 
 // A field of an 'OS/2' table.
-#[unsafe(no_mangle)]
-pub extern "C" fn gv_os2_field(table: &[u8], level: u32, number: u32) -> GvNumber
+pub fn gv_os2_field(table: &[u8], level: u32, number: u32) -> GvNumber
     ensures { result ≡ number_words (ask level table.now (Question.Field number)) }
 {
     number_words(os2::field(table, level, number))
 }
 
 // A bit of fsSelection.
-#[unsafe(no_mangle)]
-pub extern "C" fn gv_os2_selection_bit(table: &[u8], level: u32, number: u32) -> GvNumber
+pub fn gv_os2_selection_bit(table: &[u8], level: u32, number: u32) -> GvNumber
     ensures { result ≡ number_words (ask level table.now (Question.SelectionBit number)) }
 {
     number_words(os2::selection_bit(table, level, number))
 }
 
 // A bit of the Unicode ranges.
-#[unsafe(no_mangle)]
-pub extern "C" fn gv_os2_unicode_bit(table: &[u8], level: u32, number: u32) -> GvNumber
+pub fn gv_os2_unicode_bit(table: &[u8], level: u32, number: u32) -> GvNumber
     ensures { result ≡ number_words (ask level table.now (Question.UnicodeBit number)) }
 {
     number_words(os2::unicode_bit(table, level, number))
 }
 
 // A bit of the code pages.
-#[unsafe(no_mangle)]
-pub extern "C" fn gv_os2_code_page_bit(table: &[u8], level: u32, number: u32) -> GvNumber
+pub fn gv_os2_code_page_bit(table: &[u8], level: u32, number: u32) -> GvNumber
     ensures { result ≡ number_words (ask level table.now (Question.CodePageBit number)) }
 {
     number_words(os2::code_page_bit(table, level, number))
 }
 
 // Rights.
-#[unsafe(no_mangle)]
-pub extern "C" fn gv_os2_rights(table: &[u8], level: u32) -> GvRights
+pub fn gv_os2_rights(table: &[u8], level: u32) -> GvRights
     ensures { result ≡ rights_words (ask level table.now Question.Rights) }
 {
     rights_words(os2::rights(table, level))
 }
 
 // The style position.
-#[unsafe(no_mangle)]
-pub extern "C" fn gv_os2_style_position(table: &[u8], level: u32) -> GvStyle
+pub fn gv_os2_style_position(table: &[u8], level: u32) -> GvStyle
     ensures { result ≡ style_words (ask level table.now Question.StylePosition) }
 {
     style_words(os2::style_position(table, level))
 }
 
 // Optical sizes.
-#[unsafe(no_mangle)]
-pub extern "C" fn gv_os2_optical_sizes(table: &[u8], level: u32) -> GvOptical
+pub fn gv_os2_optical_sizes(table: &[u8], level: u32) -> GvOptical
     ensures { result ≡ optical_words (ask level table.now Question.OpticalSizes) }
 {
     optical_words(os2::optical_sizes(table, level))
 }
 
 // Writes the table of 48 whole numbers into lent room.
-#[unsafe(no_mangle)]
-pub extern "C" fn gv_os2_write(numbers: &[i64; FIELD_COUNT], room: &mut [u8]) -> GvWritten
+pub fn gv_os2_write(numbers: &[i64; FIELD_COUNT], room: &mut [u8]) -> GvWritten
     ensures { (result ≡ written_words (write numbers.now (length room.old))) × (room.new ≡ room_after numbers.now room.old) }
 {
     written_words(os2_writer::write(*numbers, room))
 }
 
 // Reads an 'OS/2' table at level 5 and writes it into lent room.
-#[unsafe(no_mangle)]
-pub extern "C" fn gv_os2_rewrite(table: &[u8], room: &mut [u8]) -> GvWritten
+pub fn gv_os2_rewrite(table: &[u8], room: &mut [u8]) -> GvWritten
     ensures { (result ≡ written_words (rewritten table.now (length room.old))) × (room.new ≡ room_rewritten table.now room.old) }
 {
     rewritten_words(os2_writer::rewrite(table, room))
 }
 
 // Lists what differs between two 'OS/2' tables at a level in lent rows.
-#[unsafe(no_mangle)]
-pub extern "C" fn gv_os2_compare(
+pub fn gv_os2_compare(
     left: &[u8],
     right: &[u8],
     level: u32,
@@ -182,24 +166,21 @@ pub extern "C" fn gv_os2_compare(
 }
 
 // Lists what differs between two 'name' tables in lent rows.
-#[unsafe(no_mangle)]
-pub extern "C" fn gv_name_compare(left: &[u8], right: &[u8], room: &mut [u16]) -> GvCompared
+pub fn gv_name_compare(left: &[u8], right: &[u8], room: &mut [u16]) -> GvCompared
     ensures { (result ≡ compared_words (names.compared_of left.now right.now (length room.old))) × (room.new ≡ names.room_of left.now right.now room.old) }
 {
     name_compared_words(name_compare::compare(left, right, room))
 }
 
 // A rack of empty slots.
-#[unsafe(no_mangle)]
-pub extern "C" fn gv_rack_empty() -> Rack
+pub fn gv_rack_empty() -> Rack
     ensures { held result ≡ nobody }
 {
     chooser::empty()
 }
 
 // Loads a face, by its two tables read at a level, into a slot of a rack.
-#[unsafe(no_mangle)]
-pub extern "C" fn gv_rack_load(
+pub fn gv_rack_load(
     rack: Rack,
     slot: u32,
     level: u32,
@@ -220,8 +201,7 @@ pub extern "C" fn gv_rack_load(
 }
 
 // Empties a slot of a rack.
-#[unsafe(no_mangle)]
-pub extern "C" fn gv_rack_unload(rack: Rack, slot: u32) -> GvLoaded
+pub fn gv_rack_unload(rack: Rack, slot: u32) -> GvLoaded
     ensures { (result.refusal ≡ outcome_refusal (unload_of (held rack) slot)) × (held result.rack ≡ after_unload (held rack) slot (unload_of (held rack) slot)) }
 {
     let loaded = chooser::unload(rack, slot);
@@ -235,8 +215,7 @@ pub extern "C" fn gv_rack_unload(rack: Rack, slot: u32) -> GvLoaded
 }
 
 // Chooses among the faces of a family in a rack.
-#[unsafe(no_mangle)]
-pub extern "C" fn gv_rack_request(
+pub fn gv_rack_request(
     rack: Rack,
     family: &[u8],
     weight: u32,

@@ -20,7 +20,7 @@ use name_tests::{
 use outcomes::{Carried, Told};
 
 // Why a table is refused, with the record or the tag that is at fault.
-#[derive(Drop)]
+#[derive(Clone, Copy)]
 pub enum Refusal {
     // 10: the table is under 6 bytes.
     TooShort,

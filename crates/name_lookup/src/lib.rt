@@ -16,7 +16,7 @@ pub use name_search::Text;
 use outcomes::{Carried, Told};
 
 // Why a lookup refuses.
-#[derive(Drop)]
+#[derive(Clone, Copy)]
 pub enum LookupRefusal {
     // 10 to 19 and 27: the table's own refusal.
     Table(Refusal),
