@@ -27,7 +27,7 @@ use os2_questions::{Case, Question, case_of, code_page_since, selection_since};
 use os2_style::{EmbeddingRights, OpticalSizes, StylePosition};
 
 // The answer on a field or a bit. A bit is 0 or 1.
-#[derive(Drop)]
+#[derive(Clone, Copy)]
 pub enum Answer {
     // The field's number with its sign, or the bit.
     Value(i64),
