@@ -7,7 +7,7 @@ ghost use Rattle.std.specs.Prelude.{◌≡◌, ◌<◌};
 ghost use Rattle.choice.specs.Ranks.{gap, differ, within16, rank, lower};
 
 // What a request wants beside the family: any numbers.
-#[derive(Drop)]
+#[derive(Clone, Copy)]
 pub struct Want {
     pub weight: u32,
     pub width: u32,

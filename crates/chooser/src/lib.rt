@@ -26,7 +26,7 @@ pub const SLOT_COUNT: usize = 32;
 
 // A slot: it holds a face exactly where the family's length is 1 to 64.
 #[repr(C)]
-#[derive(Drop)]
+#[derive(Clone, Copy)]
 pub struct Slot {
     pub weight: u16,
     pub width: u16,
@@ -38,7 +38,7 @@ pub struct Slot {
 }
 
 #[repr(C)]
-#[derive(Drop)]
+#[derive(Clone, Copy)]
 pub struct Rack {
     pub slots: [Slot; SLOT_COUNT],
 }
