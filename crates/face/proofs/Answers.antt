@@ -16,7 +16,7 @@ use Rattle.os2_fields.proofs.Laws.{value_plain}
 use Rattle.os2_acceptance.specs.Settled.{Accepted}
 use Rattle.os2_acceptance.proofs.Accepting.{judged_exactly, open_word}
 use Rattle.os2_questions.specs.declared.Question.TheVariants.{Field, SelectionBit}
-use Rattle.os2_questions.specs.Settled.{CameIn, field_came, selection_came, Later, after}
+use Rattle.os2_questions.specs.Settled.{CameIn, field_came, selection_came, selection_came_later, Later, newer, after}
 use Rattle.os2_answers.specs.Values.{integer, Said, value}
 use Rattle.os2_answers.specs.Asking.{ask}
 use Rattle.name_search.specs.declared.Text.{Text}
@@ -40,6 +40,7 @@ version_came = came 0 (omega arith) refl
 module _ (L : ℕ) (b : List ℕ) (l : L ≤ newest) (a : Accepted L b) where
   field_known : (k : ℕ) → (field_of k).since ≡ 0 → Later L b (Field k) → ⊥
   field_known k e (after (field_came h) x) = omega (arith, e)
+  field_known k e (newer x h) = elim x [ ]
 
   field_answer : (k : ℕ) → k ≤ 47 → (field_of k).since ≡ 0 → {n : ℕ} → Says b (Field k) (integer (pos n)) → ask L b (Field k) ≡ answered (figure n)
   field_answer k h e s = settled_is L b (Field k) _ (is_value l (came k h e) a (field_known k e) (omega arith) s)
@@ -58,6 +59,8 @@ module _ (L : ℕ) (b : List ℕ) (l : L ≤ newest) (a : Accepted L b) where
 
   slope_known : Later L b (SelectionBit 0) → ⊥
   slope_known (after (selection_came h) x) = omega arith
+  slope_known (after (selection_came_later h g) x) = elim h [ ]
+  slope_known (newer x h) = elim x [ ]
 
   pub slope_answer : {n : ℕ} → Says b (SelectionBit 0) (integer (pos n)) → ask L b (SelectionBit 0) ≡ answered (figure n)
   slope_answer s = settled_is L b (SelectionBit 0) _ (is_value l (selection_came (omega arith)) a slope_known (omega arith) s)
