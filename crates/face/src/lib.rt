@@ -116,7 +116,7 @@ fn family(name: &[u8]) -> Answer
         return Answer::Refused(LookupRefusal::Table(why));
     }
     let first = look_up(name, 16);
-    if let Answer::Refused(why) = &first {
+    if let Answer::Refused(why) = first {
         if let LookupRefusal::NoRecord = why {
             return look_up(name, 1);
         }
