@@ -7,11 +7,11 @@
 //   stands there. Its questions are those of document 01, as `field 39 at level 5`, and `check at level 5`; a float is written by its bits.
 #![tactic(auto)]
 
-mod lines;
 mod name_rows;
 mod os2_rows;
+mod pieces;
 
-use lines::{byte_at, line_end, text};
+use pieces::{byte_at, line_end, text};
 use std::io;
 
 fn main(rt: HostRuntime) -> io::Result<()> {
@@ -25,7 +25,7 @@ fn rows(rt: &impl Print, lines: &[u8]) -> io::Result<()> {
     let mut start = 0;
     while start < lines.len() {
         let end = line_end(lines, start);
-        table = lines::latest_table(lines, start, table);
+        table = pieces::latest_table(lines, start, table);
         let table_end = line_end(lines, table);
         row(rt, &lines[start..end], &lines[table..table_end])?;
         start = end + 1;

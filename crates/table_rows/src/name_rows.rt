@@ -1,7 +1,7 @@
 // The rows of 'name' tables: check, lookup, PostScript name and version number.
 ghost use Rattle.std.specs.Prelude.{◌≤◌};
 
-use crate::lines::{byte_at, number, numbered, refused, text};
+use crate::pieces::{byte_at, number, numbered, refused, text};
 use name::Verdict;
 use name_lookup::{Answer, Text};
 use name_strings::{PostscriptAnswer, VersionAnswer};

@@ -1,7 +1,7 @@
 // The rows of 'OS/2' tables: acceptance at a level and the seven questions.
 ghost use Rattle.std.specs.Prelude.{◌≡◌, ◌≤◌, length};
 
-use crate::lines::{byte_at, last_word, number, numbered, refused, text};
+use crate::pieces::{byte_at, last_word, number, numbered, refused, text};
 use os2::{
     Answer, AnyReply, Checked, OpticalAnswer, OpticalReply, Question, Reply, RightsAnswer,
     RightsReply, StyleAnswer, StyleReply,

@@ -1,5 +1,5 @@
 -- Document 02, Ask 7, on whole tables: the face that two tables give, and the refusals of a load, alone and two at once, in their order.
-use Rattle.std.specs.Prelude.{ℕ, ◌≡◌, Bool, true, false, cond, List, [], ◌∷◌, ◌++◌, map, eqb, ltb, replicate}
+use Rattle.std.specs.Prelude.{ℕ, ◌≡◌, true, false, cond, List, [], ◌∷◌, ◌++◌, map, eqb, ltb, replicate}
 use Rattle.std.proofs.Math.Option.{Option, none, some}
 use Rattle.outcomes.specs.Outcomes.{Outcome, refused, answered, accepted}
 use Rattle.choice.specs.Faces.{Face, Slots}
