@@ -1,7 +1,5 @@
 -- Each branch is the definition at its case.
-use mathlib.Core.Path.{◌≡◌, refl, sym, ◌∙◌}
-use mathlib.Core.Bool.{false}
-use Rattle.chooser.specs.Calls.{no_such_slot}
+use mathlib.Core.Path.{refl, sym, ◌∙◌}
 use Rattle.chooser.proofs.Steps.{emptying_54, emptying_55, emptying_done, clear_done, clear_refused}
 use Rattle.chooser.proofs.clear.Goals as goal
 
@@ -9,7 +7,11 @@ pub returns-then-is_none : goal.returns-then-is_none
 returns-then-is_none c = clear_refused _ _ _ _ _ (emptying_54 _ _ (sym c.is_none.ensures ∙ c.if-is_none.true)) refl refl
 
 pub returns-then-is_taken : goal.returns-then-is_taken
-returns-then-is_taken c = clear_done _ _ _ (emptying_done _ _ ((let h : no_such_slot c.args.slot ≡ false = sym c.is_none.ensures ∙ c.if-is_none.false in h)) (sym c.is_taken.ensures ∙ c.if-is_taken.true)) refl c.empty_slot-empty.ensures
+returns-then-is_taken c =
+    let there = sym c.is_none.ensures ∙ c.if-is_none.false in
+    clear_done _ _ _ (emptying_done _ _ there (sym c.is_taken.ensures ∙ c.if-is_taken.true)) refl c.empty_slot-empty.ensures
 
 pub returns : goal.returns
-returns c = clear_refused _ _ _ _ _ (emptying_55 _ _ ((let h : no_such_slot c.args.slot ≡ false = sym c.is_none.ensures ∙ c.if-is_none.false in h)) (sym c.is_taken.ensures ∙ c.if-is_taken.false)) refl refl
+returns c =
+    let there = sym c.is_none.ensures ∙ c.if-is_none.false in
+    clear_refused _ _ _ _ _ (emptying_55 _ _ there (sym c.is_taken.ensures ∙ c.if-is_taken.false)) refl refl
