@@ -52,7 +52,7 @@ fn compare_from(rt: &HostRuntime, i: usize, count: usize) -> usize
     let Some(n) = argument(rt, i, b"os2 or name", &mut word) else {
         return count;
     };
-    if word[..n] == *b"name" {
+    if &word[..n] == b"name".as_slice() {
         if count - i < 3 {
             say(rt, b"compare: name LEFT RIGHT\n");
             return count;
@@ -60,7 +60,7 @@ fn compare_from(rt: &HostRuntime, i: usize, count: usize) -> usize
         compare_names(rt, i + 1, i + 2);
         return i + 3;
     }
-    if word[..n] == *b"os2" {
+    if &word[..n] == b"os2".as_slice() {
         if count - i < 4 {
             say(rt, b"compare: os2 LEVEL LEFT RIGHT\n");
             return count;
