@@ -1,4 +1,4 @@
-//! Links the static library that `rt staticlib gyalvindor` writes into the repository's target folder.
+//! Links the static library that the repository's `archive` writes into its target folder.
 
 use std::path::Path;
 
@@ -9,7 +9,7 @@ fn main() {
     println!("cargo:rerun-if-changed={}", archive.display());
     if !archive.exists() {
         eprintln!("{} is not there.", archive.display());
-        eprintln!("Run `rt staticlib gyalvindor` in the repository's first folder.");
+        eprintln!("Run `./archive` in the repository's first folder.");
         std::process::exit(1);
     }
     println!("cargo:rustc-link-search=native={}", folder.display());

@@ -7,7 +7,7 @@
  *
  * FILE holds the bytes of one table, not of a whole font.
  *
- * `make -C examples` builds it, once `rt staticlib gyalvindor` has made the archive. By hand, from the repository's root:
+ * `make -C examples` builds it, once `./archive` has made the archive. By hand, from the repository's root:
  *
  *     cc -std=c99 -Iinclude -o face examples/face.c target/staticlib/libgyalvindor.a
  */

@@ -9,7 +9,7 @@
  * slot that is chosen, and the one that is chosen once that slot is empty. Where a file can't be read, a message says so on
  * standard error and nothing is printed.
  *
- * `make -C examples` builds it, once `rt staticlib gyalvindor` has made the archive. By hand, from the repository's root:
+ * `make -C examples` builds it, once `./archive` has made the archive. By hand, from the repository's root:
  *
  *     cc -std=c99 -Iinclude -o rack examples/rack.c target/staticlib/libgyalvindor.a
  */

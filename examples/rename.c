@@ -8,7 +8,7 @@
  * in every language. All other texts stay as they are. FAMILY has 1 to 32767 printable characters of ASCII. Where something
  * can't be read or is refused, nothing is written.
  *
- * `make -C examples` builds it, once `rt staticlib gyalvindor` has made the archive. By hand, from the repository's root:
+ * `make -C examples` builds it, once `./archive` has made the archive. By hand, from the repository's root:
  *
  *     cc -std=c99 -Iinclude -o rename examples/rename.c target/staticlib/libgyalvindor.a
  */

@@ -2,7 +2,7 @@
  * Gyalvindor: a proved reader of a font's 'name' and 'OS/2' tables, a proved comparison of two of them, proved writers of
  * both, and a proved chooser among the faces that a rack has loaded.
  *
- * Building. `rt staticlib gyalvindor`, run in the repository's root, makes the archive. Then:
+ * Building. `./archive`, run in the repository's root, makes the archive. Then:
  *
  *     cc -Iinclude program.c target/staticlib/libgyalvindor.a
  *

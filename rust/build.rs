@@ -14,7 +14,7 @@ fn main() {
         eprintln!("The archive {} is not there.", archive.display());
         eprintln!("Make it by running, in {}:", root.display());
         eprintln!();
-        eprintln!("    rt staticlib gyalvindor");
+        eprintln!("    ./archive");
         process::exit(1);
     }
     println!("cargo::rustc-link-search=native={}", folder.display());

@@ -1,3 +1,6 @@
+pub mod Again
+pub mod Lent
+pub mod Locals
 pub mod Reading
 pub mod Refusing
 pub mod Rewriting

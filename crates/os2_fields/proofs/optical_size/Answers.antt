@@ -18,12 +18,15 @@ returns-then-version-since c = let old : fields.version c.args.table.now < 5 = o
     rw (lt-ltb _ _ old)
 
 pub word-requires : goal.word-requires
-word-requires c = let given = c.requires in
-    let long : table_size 5 ≤ length c.args.table.now = le_trans (size_rises 5 _ ((let h : 5 ≤ fields.version c.args.table.now = omega (arith, c.if-version-since.false, c.version.ensures, c.requires.came) in h))) given.sized in
+word-requires c =
+    let given = c.requires in
+    let new : 5 ≤ fields.version c.args.table.now = omega (arith, c.if-version-since.false, c.version.ensures, c.requires.came) in
+    let long : table_size 5 ≤ length c.args.table.now = le_trans (size_rises 5 _ new) given.sized in
     record {
       lies = record { inside = omega (arith, given.inside, given.two, long); sound = record { wide = inr (inl given.two); signs = λ e. given.two } };
       two = given.two;
     }
 
 pub returns : goal.returns
-returns c = rw (le-ltb _ _ ((let h : 5 ≤ fields.version c.args.table.now = omega (arith, c.if-version-since.false, c.version.ensures, c.requires.came) in h))) c.word.ensures
+returns c = let new : 5 ≤ fields.version c.args.table.now = omega (arith, c.if-version-since.false, c.version.ensures, c.requires.came) in
+    rw (le-ltb _ _ new) c.word.ensures

@@ -1,5 +1,4 @@
 -- Each arm is the name of its case.
--- the text goes by the case
 use mathlib.Core.Path.{◌≡◌, sym, ap}
 use native.Mathlib.Omega.{arith}
 use Rattle.os2_style.specs.declared.EmbeddingRights.{EmbeddingRights}

@@ -1,16 +1,13 @@
 -- The text is that of the line's question, from the fields that a table of which the value is given has.
--- the last line is that of optical sizes
-use mathlib.Core.Path.{◌≡◌, refl, ap, ◌∙◌}
+use mathlib.Core.Path.{refl, ap, ◌∙◌}
 use native.Mathlib.Omega.{arith}
 use Rattle.os2_fields.specs.Catalogue.{catalogue, field_of}
 use Rattle.os2_fields.specs.Fields.{value_in}
 use Rattle.os2_style.specs.Style.{rights_of}
-use Rattle.os2_questions.specs.declared.Question.TheVariants.{OpticalSizes}
 use Rattle.os2_answers.specs.Asking.{value_of}
 use Rattle.os2_figures.specs.Figures.{signed_text, rights_text}
 use Rattle.os2_figures.proofs.Laws.{kept}
 use Rattle.lines.proofs.Pieces.{put_as}
-use Rattle.os2_lines.specs.Listings.{question_of}
 use Rattle.os2_lines.proofs.Laws.{field_line, rights_line, style_line, sizes_line, field_lies, old_word, sizes_word, style_width}
 use borrow.Author.Rules.{rules}
 use Rattle.os2_lines.proofs.put_value.Goals as goal
@@ -53,13 +50,13 @@ returns-then-k-eq-STYLE_LINE c = rw (style_line _ c.if-k-eq-STYLE_LINE.true)
 
 pub word-lower-requires : goal.word-lower-requires
 unfolding field_of catalogue
-word-lower-requires c = sizes_word c.requires.1 ((let h : question_of c.args.k ≡ OpticalSizes = sizes_line _ c.if-k-lt-RIGHTS_LINE.false c.if-k-eq-RIGHTS_LINE.false c.if-k-eq-STYLE_LINE.false in h)) 46 (omega arith) refl refl
+word-lower-requires c = sizes_word c.requires.1 (sizes_line _ c.if-k-lt-RIGHTS_LINE.false c.if-k-eq-RIGHTS_LINE.false c.if-k-eq-STYLE_LINE.false) 46 (omega arith) refl refl
 
 pub word-requires-2 : goal.word-requires-2
 unfolding field_of catalogue
-word-requires-2 c = sizes_word c.requires.1 ((let h : question_of c.args.k ≡ OpticalSizes = sizes_line _ c.if-k-lt-RIGHTS_LINE.false c.if-k-eq-RIGHTS_LINE.false c.if-k-eq-STYLE_LINE.false in h)) 47 (omega arith) refl refl
+word-requires-2 c = sizes_word c.requires.1 (sizes_line _ c.if-k-lt-RIGHTS_LINE.false c.if-k-eq-RIGHTS_LINE.false c.if-k-eq-STYLE_LINE.false) 47 (omega arith) refl refl
 
 pub returns : goal.returns
 unfolding value_of field_of catalogue
-returns c = rw ((let h : question_of c.args.k ≡ OpticalSizes = sizes_line _ c.if-k-lt-RIGHTS_LINE.false c.if-k-eq-RIGHTS_LINE.false c.if-k-eq-STYLE_LINE.false in h))
+returns c = rw (sizes_line _ c.if-k-lt-RIGHTS_LINE.false c.if-k-eq-RIGHTS_LINE.false c.if-k-eq-STYLE_LINE.false)
     (put_as c.put_sizes.ensures (omega arith) (rw (c.word-lower.ensures, c.word-2.ensures)))

@@ -1,5 +1,4 @@
 -- Each return names the rule whose test is the first to find its rule broken.
--- where control passed a rule, the rules up to it are kept
 use mathlib.Core.Path.{sym, ◌∙◌}
 use native.Mathlib.Omega.{arith}
 use Rattle.os2_rules.specs.Tests.{broken, verdict_of}

@@ -6,17 +6,27 @@ use Rattle.os2_store.proofs.Signs.{kept, small_fits, code_32, code_negative, cod
 use Rattle.os2_store.proofs.code.Goals as goal
 
 pub overflow_add-result : goal.overflow_add-result
-overflow_add-result c = rw (kept _ c.ranges.x, (let h : c.args.x +ℤ pos 65536 ≡ pos (code_of c.args.f c.args.x) = code_negative _ c.requires.0 _ c.requires.1 (rw (kept _ c.ranges.x) at c.if-x-lt0.true) in h)) (small_fits _ (code_32 _ c.requires.0 _ c.requires.1))
+overflow_add-result c =
+    let more : c.args.x +ℤ pos 65536 ≡ pos (code_of c.args.f c.args.x) = code_negative _ c.requires.0 _ c.requires.1 (rw (kept _ c.ranges.x) at c.if-x-lt0.true) in
+    rw (kept _ c.ranges.x, more) (small_fits _ (code_32 _ c.requires.0 _ c.requires.1))
 
 pub overflow_cast-result : goal.overflow_cast-result
-overflow_cast-result c = rw (kept _ c.ranges.x, (let h : c.args.x +ℤ pos 65536 ≡ pos (code_of c.args.f c.args.x) = code_negative _ c.requires.0 _ c.requires.1 (rw (kept _ c.ranges.x) at c.if-x-lt0.true) in h), kept _ (small_fits _ (code_32 _ c.requires.0 _ c.requires.1)))
+overflow_cast-result c =
+    let more : c.args.x +ℤ pos 65536 ≡ pos (code_of c.args.f c.args.x) = code_negative _ c.requires.0 _ c.requires.1 (rw (kept _ c.ranges.x) at c.if-x-lt0.true) in
+    rw (kept _ c.ranges.x, more, kept _ (small_fits _ (code_32 _ c.requires.0 _ c.requires.1)))
     (tt, record { fits = code_32 _ c.requires.0 _ c.requires.1 })
 
 pub returns-then-x-lt0 : goal.returns-then-x-lt0
-returns-then-x-lt0 c = rw (kept _ c.ranges.x, (let h : c.args.x +ℤ pos 65536 ≡ pos (code_of c.args.f c.args.x) = code_negative _ c.requires.0 _ c.requires.1 (rw (kept _ c.ranges.x) at c.if-x-lt0.true) in h), kept _ (small_fits _ (code_32 _ c.requires.0 _ c.requires.1)))
+returns-then-x-lt0 c =
+    let more : c.args.x +ℤ pos 65536 ≡ pos (code_of c.args.f c.args.x) = code_negative _ c.requires.0 _ c.requires.1 (rw (kept _ c.ranges.x) at c.if-x-lt0.true) in
+    rw (kept _ c.ranges.x, more, kept _ (small_fits _ (code_32 _ c.requires.0 _ c.requires.1)))
 
 pub overflow_cast-result-2 : goal.overflow_cast-result-2
-overflow_cast-result-2 c = rw (kept _ c.ranges.x, (let h : c.args.x ≡ pos (code_of c.args.f c.args.x) = code_positive _ c.requires.0 _ c.requires.1 (rw (kept _ c.ranges.x) at c.if-x-lt0.false) in h)) (tt, record { fits = code_32 _ c.requires.0 _ c.requires.1 })
+overflow_cast-result-2 c =
+    let own : c.args.x ≡ pos (code_of c.args.f c.args.x) = code_positive _ c.requires.0 _ c.requires.1 (rw (kept _ c.ranges.x) at c.if-x-lt0.false) in
+    rw (kept _ c.ranges.x, own) (tt, record { fits = code_32 _ c.requires.0 _ c.requires.1 })
 
 pub returns : goal.returns
-returns c = ap nat_abs (kept _ c.ranges.x ∙ (let h : c.args.x ≡ pos (code_of c.args.f c.args.x) = code_positive _ c.requires.0 _ c.requires.1 (rw (kept _ c.ranges.x) at c.if-x-lt0.false) in h))
+returns c =
+    let own : c.args.x ≡ pos (code_of c.args.f c.args.x) = code_positive _ c.requires.0 _ c.requires.1 (rw (kept _ c.ranges.x) at c.if-x-lt0.false) in
+    ap nat_abs (kept _ c.ranges.x ∙ own)
