@@ -154,12 +154,7 @@ pub fn gv_os2_rewrite(table: &[u8], room: &mut [u8]) -> GvWritten
 }
 
 // Lists what differs between two 'OS/2' tables at a level in lent rows.
-pub fn gv_os2_compare(
-    left: &[u8],
-    right: &[u8],
-    level: u32,
-    room: &mut [i64],
-) -> GvCompared
+pub fn gv_os2_compare(left: &[u8], right: &[u8], level: u32, room: &mut [i64]) -> GvCompared
     ensures { (result ≡ compared_words (fields.compared_of level left.now right.now (length room.old))) × (room.new ≡ fields.room_of level left.now right.now room.old) }
 {
     os2_compared_words(os2_compare::compare(left, right, level, room))
@@ -180,13 +175,7 @@ pub fn gv_rack_empty() -> Rack
 }
 
 // Loads a face, by its two tables read at a level, into a slot of a rack.
-pub fn gv_rack_load(
-    rack: Rack,
-    slot: u32,
-    level: u32,
-    os2: &[u8],
-    name: &[u8],
-) -> GvLoaded
+pub fn gv_rack_load(rack: Rack, slot: u32, level: u32, os2: &[u8], name: &[u8]) -> GvLoaded
     ensures { (result.refusal ≡ outcome_refusal (load_of (held rack) slot level os2.now name.now)) ×
         (held result.rack ≡ after_load (held rack) slot (load_of (held rack) slot level os2.now name.now)) }
 {
@@ -215,13 +204,7 @@ pub fn gv_rack_unload(rack: Rack, slot: u32) -> GvLoaded
 }
 
 // Chooses among the faces of a family in a rack.
-pub fn gv_rack_request(
-    rack: Rack,
-    family: &[u8],
-    weight: u32,
-    width: u32,
-    slope: u32,
-) -> GvChosen
+pub fn gv_rack_request(rack: Rack, family: &[u8], weight: u32, width: u32, slope: u32) -> GvChosen
     ensures { result ≡ chosen_words (request_of (held rack) family.now (want_of weight width slope)) }
 {
     choice_words(chooser::request(rack, family, want_of(weight, width, slope)))

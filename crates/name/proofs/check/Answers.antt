@@ -1,13 +1,9 @@
--- The layout's fault, else the records', else the tags'.
--- past the first test no fault of the layout is left, past the second none of the records
-use mathlib.Core.Path.{◌≡◌, sym, ◌∙◌, ap}
-use mathlib.Core.Option.{none}
-use Rattle.outcomes.specs.Firsts.{◌then◌, first_among}
+-- The layout's fault, else the records', else the tags': past the first test no fault of the layout is left, past the second none of the records.
+use mathlib.Core.Path.{sym, ◌∙◌, ap}
+use Rattle.outcomes.specs.Firsts.{◌then◌}
 use Rattle.outcomes.specs.Outcomes.{accepted, unless}
-use Rattle.name_layout.specs.Layout.{count}
-use Rattle.name_tests.specs.Steps.{Framed}
 use Rattle.name.specs.Refusals.{said_fault}
-use Rattle.name.specs.Acceptance.{layout_fault, record_fault, faults}
+use Rattle.name.specs.Acceptance.{faults}
 use Rattle.name.proofs.Acceptances.{layout_none, framed}
 use Rattle.name.proofs.check.Goals as goal
 
@@ -16,15 +12,20 @@ unfolding faults ◌then◌
 returns-in-Refused c = ap (λ o. unless o accepted) (simp (← c.layout_fault.ensures, c.in-Refused.is))
 
 pub record_faults-requires : goal.record_faults-requires
-record_faults-requires c = (let h : Framed c.args.table.now = framed _ ((layout_none _).0 ((let h : layout_fault c.args.table.now ≡ none = sym c.layout_fault.ensures ∙ ap said_fault c.in_default.is in h))) in h)
+record_faults-requires c = framed _ ((layout_none _).0 (sym c.layout_fault.ensures ∙ ap said_fault c.in_default.is))
 
 pub returns-in-Refused-record_faults : goal.returns-in-Refused-record_faults
 unfolding faults ◌then◌
-returns-in-Refused-record_faults c = ap (λ o. unless o accepted) (simp ((let h : layout_fault c.args.table.now ≡ none = sym c.layout_fault.ensures ∙ ap said_fault c.in_default.is in h), ← c.record_faults.ensures, c.in-Refused-record_faults.is))
+returns-in-Refused-record_faults c =
+    let laid = sym c.layout_fault.ensures ∙ ap said_fault c.in_default.is in
+    ap (λ o. unless o accepted) (simp (laid, ← c.record_faults.ensures, c.in-Refused-record_faults.is))
 
 pub tag_faults-requires : goal.tag_faults-requires
-tag_faults-requires c = (let h : Framed c.args.table.now = framed _ ((layout_none _).0 ((let h : layout_fault c.args.table.now ≡ none = sym c.layout_fault.ensures ∙ ap said_fault c.in_default.is in h))) in h)
+tag_faults-requires c = framed _ ((layout_none _).0 (sym c.layout_fault.ensures ∙ ap said_fault c.in_default.is))
 
 pub returns : goal.returns
 unfolding faults ◌then◌
-returns c = ap (λ o. unless o accepted) (simp ((let h : layout_fault c.args.table.now ≡ none = sym c.layout_fault.ensures ∙ ap said_fault c.in_default.is in h), (let h : let t = c.args.table.now in first_among (record_fault t) (count t) ≡ none = sym c.record_faults.ensures ∙ ap said_fault c.in_default-record_faults.is in h)) c.tag_faults.ensures)
+returns c =
+    let laid = sym c.layout_fault.ensures ∙ ap said_fault c.in_default.is in
+    let sound = sym c.record_faults.ensures ∙ ap said_fault c.in_default-record_faults.is in
+    ap (λ o. unless o accepted) (simp (laid, sound) c.tag_faults.ensures)
