@@ -1,7 +1,7 @@
 #!/usr/bin/env python3
 """Brings the repository's own definitions and lemmas to today's spelling: words in snake case, types and facts as they are.
 
-usage: python3 tools/spelling.py        once, at the top of the repository, after /opt/rattle/port/port.py
+usage: python3 tools/spelling.py        once, at the top of the repository, after the port.py of the installed kit
 
 It goes by names: whatever a file of specs/ or proofs/ declares and that is spelled with a capital inside or with a dash gets
 its words joined by `_`, wherever that name stands in specs/, proofs/, contracts, must-fail edits and, in backticks, in the
