@@ -1,9 +1,9 @@
 -- The locals of `each` and `write`.
---     entries-ty, pool-ty, room-ty     the MIR types of the parameters
---     ref-ty, lent-ty                  of the room as it is lent again: the reference, and the slice
---     work-ty, work-val                of a work, with its value in the machine
+--     entries_ty, pool_ty, room_ty     the MIR types of the parameters
+--     ref_ty, lent_ty                  of the room as it is lent again: the reference, and the slice
+--     work_ty, work_val                of a work, with its value in the machine
 --     Known w                          the machine's value is that of the work w
---     told-val, told                   so is a value that a call returns, where an equation says which work it is
+--     told_val, told                   so is a value that a call returns, where an equation says which work it is
 --     typed                            and it is of its type
 --     owns                             what a work owns, which is nothing, so that it can be had at any time
 -- Assumes `Logic`.
