@@ -12,19 +12,36 @@ pub returns-in-Refused : goal.returns-in-Refused
 returns-in-Refused c = left_refused _ _ _ _ (sym c.new.ensures ∙ c.in-Known.is) (sym c.judge.ensures ∙ ap said_found c.in-Refused.is)
 
 pub returns-in-Refused-judge : goal.returns-in-Refused-judge
-returns-in-Refused-judge c = right_refused _ _ _ _ (sym c.new.ensures ∙ c.in-Known.is) (sym c.judge.ensures ∙ ap said_found c.in_default-judge.is) (sym c.judge-2.ensures ∙ ap said_found c.in-Refused-judge.is)
+returns-in-Refused-judge c =
+    let known = sym c.new.ensures ∙ c.in-Known.is in
+    let left = sym c.judge.ensures ∙ ap said_found c.in_default-judge.is in
+    right_refused _ _ _ _ known left (sym c.judge-2.ensures ∙ ap said_found c.in-Refused-judge.is)
 
 pub count_differences-count-requires : goal.count_differences-count-requires
-count_differences-count-requires c = record { on_left = sym c.judge.ensures ∙ ap said_found c.in_default-judge.is; on_right = sym c.judge-2.ensures ∙ ap said_found c.in_default-judge-2.is }
+count_differences-count-requires c =
+    let left = sym c.judge.ensures ∙ ap said_found c.in_default-judge.is in
+    let right = sym c.judge-2.ensures ∙ ap said_found c.in_default-judge-2.is in
+    record { on_left = left; on_right = right }
 
 pub returns-then-too_many : goal.returns-then-too_many
-returns-then-too_many c = too_many _ _ _ _ (sym c.new.ensures ∙ c.in-Known.is) (sym c.judge.ensures ∙ ap said_found c.in_default-judge.is) (sym c.judge-2.ensures ∙ ap said_found c.in_default-judge-2.is) c.count_differences-count.ensures
+returns-then-too_many c =
+    let known = sym c.new.ensures ∙ c.in-Known.is in
+    let left = sym c.judge.ensures ∙ ap said_found c.in_default-judge.is in
+    let right = sym c.judge-2.ensures ∙ ap said_found c.in_default-judge-2.is in
+    too_many _ _ _ _ known left right c.count_differences-count.ensures
     ((too_many_exactly _ _).0 (sym c.too_many.ensures ∙ c.if-too_many.true))
 
 pub write_differences-requires : goal.write_differences-requires
-write_differences-requires c = let enough = (enough_exactly _ _).0 (sym c.too_many.ensures ∙ c.if-too_many.false) in
-    (record { on_left = sym c.judge.ensures ∙ ap said_found c.in_default-judge.is; on_right = sym c.judge-2.ensures ∙ ap said_found c.in_default-judge-2.is }, c.count_differences-count.ensures, enough)
+write_differences-requires c =
+    let left = sym c.judge.ensures ∙ ap said_found c.in_default-judge.is in
+    let right = sym c.judge-2.ensures ∙ ap said_found c.in_default-judge-2.is in
+    let enough = (enough_exactly _ _).0 (sym c.too_many.ensures ∙ c.if-too_many.false) in
+    (record { on_left = left; on_right = right }, c.count_differences-count.ensures, enough)
 
 pub returns : goal.returns
-returns c = all_listed _ _ _ _ (sym c.new.ensures ∙ c.in-Known.is) (sym c.judge.ensures ∙ ap said_found c.in_default-judge.is) (sym c.judge-2.ensures ∙ ap said_found c.in_default-judge-2.is) c.count_differences-count.ensures
+returns c =
+    let known = sym c.new.ensures ∙ c.in-Known.is in
+    let left = sym c.judge.ensures ∙ ap said_found c.in_default-judge.is in
+    let right = sym c.judge-2.ensures ∙ ap said_found c.in_default-judge-2.is in
+    all_listed _ _ _ _ known left right c.count_differences-count.ensures
     ((enough_exactly _ _).0 (sym c.too_many.ensures ∙ c.if-too_many.false)) c.write_differences.ensures

@@ -10,7 +10,13 @@ pub returns-then-width_broken : goal.returns-then-width_broken
 returns-then-width_broken c = rw (kept_chain _) (simp ((sym c.weight_broken.ensures ∙ c.if-weight_broken.false), sym c.width_broken.ensures ∙ c.if-width_broken.true))
 
 pub returns-then-fstype_broken : goal.returns-then-fstype_broken
-returns-then-fstype_broken c = rw (kept_chain _) (simp ((sym c.weight_broken.ensures ∙ c.if-weight_broken.false), (sym c.width_broken.ensures ∙ c.if-width_broken.false), sym c.fstype_broken.ensures ∙ c.if-fstype_broken.true))
+returns-then-fstype_broken c =
+    rw (kept_chain _)
+    (simp (
+      (sym c.weight_broken.ensures ∙ c.if-weight_broken.false),
+      (sym c.width_broken.ensures ∙ c.if-width_broken.false),
+      sym c.fstype_broken.ensures ∙ c.if-fstype_broken.true,
+    ))
 
 pub returns-then-fsselection_broken : goal.returns-then-fsselection_broken
 returns-then-fsselection_broken c = rw (kept_chain _)
