@@ -1,6 +1,6 @@
 -- Laws of big-endian numbers, each once over the width, by induction on it.
 -- Assumes nothing.
-use Prim.Native.Nat.{ℕ, zero, suc, ◌+◌, ◌*◌, ◌/◌, ◌%◌, ◌^◌, ◌<◌, ◌≤◌}
+use Prim.Native.Nat.{ℕ, zero, suc, ◌+◌, ◌-◌, ◌*◌, ◌/◌, ◌%◌, ◌^◌, ◌<◌, ◌≤◌}
 use mathlib.Core.Path.{◌≡◌, refl, ◌∙◌}
 use mathlib.Core.Logic.{◌⊎◌, inl, inr}
 use mathlib.Core.List.{List}
@@ -9,6 +9,9 @@ use native.Mathlib.Omega.{arith}
 use lib.Arith.{digits_lt, digits_div, digits_mod}
 use lib.ListN.{length, get_or, set, take, length-set}
 use lib.Seq.{get_or-set_same, get_or-set_other, set-get_or, get_or-take}
+use borrow.Rule.Slice.PartMut.{put_mid}
+use Rattle.std.specs.Int.{w16, w32, to_be_bytes}
+use Rattle.copying.proofs.Copies.{put_sets}
 use Rattle.bigendian.specs.Numbers.{number, stored, Bytes}
 
 -- ---- reads
@@ -49,6 +52,25 @@ pub number_take : (k n : ℕ) (s : List ℕ) (at : ℕ) → at + k ≤ n → num
 number_take k n s at h = number_same k (take n s) s at at (λ i l. get_or-take n s (at + i) 0 (omega arith))
 
 -- ---- stores
+
+-- the bytes of a number of two or four bytes, stored at once
+pub stored_2 : (s : List ℕ) (at n : ℕ) (ys : List ℕ) → at + 2 ≤ length s → ys ≡ to_be_bytes w16 n → put_mid at (at + 2 - at) s ys ≡ stored 2 s at n
+unfolding stored
+stored_2 s at n ys h e =
+    let a : at + 0 ≡ at = omega arith in
+    let b : at + 1 ≡ suc at = omega arith in
+    put_sets s at 2 (to_be_bytes w16 n) h refl e ∙ rw (a, b)
+
+pub stored_4 : (s : List ℕ) (at n : ℕ) (ys : List ℕ) → at + 4 ≤ length s → ys ≡ to_be_bytes w32 n → put_mid at (at + 4 - at) s ys ≡ stored 4 s at n
+unfolding stored
+stored_4 s at n ys h e =
+    let a : at + 0 ≡ at = omega arith in
+    let b : at + 1 ≡ suc at = omega arith in
+    let c : at + 2 ≡ suc (suc at) = omega arith in
+    let d : at + 3 ≡ suc (suc (suc at)) = omega arith in
+    let second : n / 256 / 256 ≡ n / 65536 = omega arith in
+    let first : n / 65536 / 256 ≡ n / 16777216 = omega arith in
+    put_sets s at 4 (to_be_bytes w32 n) h refl e ∙ rw (a, b, c, d, second, first)
 
 pub stored_length : (k : ℕ) (s : List ℕ) (at n : ℕ) → length (stored k s at n) ≡ length s
 unfolding stored

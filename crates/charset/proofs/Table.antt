@@ -6,6 +6,7 @@ use mathlib.Core.Path.{◌≡◌, refl, sym}
 use mathlib.Core.Bool.{Bool, true, false, xor}
 use mathlib.Core.List.{List, [], ◌∷◌}
 use mathlib.Core.Logic.{◌↔◌}
+use Rattle.std.specs.Bool.{one_answer}
 use Rattle.charset.specs.Allowed.{allowed}
 use Rattle.charset.specs.Table.{entry_of, AllowsExactly}
 use Rattle.charset.proofs.Laws.{codes_below, none_below, allowed_is}
@@ -25,16 +26,9 @@ not_other true false = (λ e. e, λ e. e)
 not_other false true = (λ e. sym e, λ e. sym e)
 not_other false false = (λ e. refl, λ e. refl)
 
--- two tests that decide the same are equal
-agree : (a b : Bool) {P : Type 0} → ((a ≡ true) ↔ P) → ((b ≡ true) ↔ P) → a ≡ b
-agree true true p q = refl
-agree true false p q = sym (q.1 (p.0 refl))
-agree false true p q = p.1 (q.0 refl)
-agree false false p q = refl
-
 -- each entry of a table that allows exactly document 01's characters is the definition's answer
 pub settles : (words : List ℕ) → AllowsExactly words → (c : ℕ) → c < 256 → entry_of words c ≡ allowed c
-settles words a c h = agree (entry_of words c) (allowed c) (a.each c h) (allowed_is c)
+settles words a c h = one_answer (entry_of words c) (allowed c) (a.each c h) (allowed_is c)
 
 -- "one test over the whole table shall show that it allows exactly document 01's 84"
 pub whole_table : (words : List ℕ) → (wrong words ≡ []) ↔ AllowsExactly words

@@ -8,6 +8,8 @@ use mathlib.Core.List.{List, [], ◌∷◌, map, ◌++◌}
 use lib.ListN.{replicate}
 use Rattle.outcomes.specs.Outcomes.{refused, answered, accepted}
 use Rattle.choice.specs.Faces.{Face}
+use Rattle.std.specs.Prelude.{Ok, Err}
+use Rattle.os2_rules.specs.declared.BrokenRule.TheVariants.{Regular}
 use Rattle.os2_acceptance.specs.declared.Refusal.TheVariants as os2
 use Rattle.name_lookup.specs.declared.LookupRefusal.TheVariants.{NoRecord}
 use Rattle.face.specs.declared.Refusal.TheVariants.{Os2, Newer, Name, Unfit}
@@ -15,15 +17,13 @@ use Rattle.face.specs.Reading.{unfit}
 use Rattle.chooser.specs.declared.Slot.{Slot}
 use Rattle.chooser.specs.declared.Refusal.{Refusal}
 use Rattle.chooser.specs.declared.Refusal.TheVariants.{LevelAbove, NoSlot, Taken, Font, Empty, NoFace}
-use Rattle.chooser.specs.declared.Change.TheVariants as Change·
-use Rattle.chooser.specs.declared.Choice.TheVariants as Choice·
 use Rattle.chooser.specs.Racks.{slot_of, held}
 use Rattle.chooser.specs.Calls.{nobody}
 use Rattle.chooser.specs.Replies.{said_refusal, said_change, said_choice}
 
 abbrev refusals : List Refusal
 refusals =
-    LevelAbove ∷ NoSlot ∷ Taken ∷ Font (Os2 os2.TooShort) ∷ Font (Os2 (os2.RuleBroken 6)) ∷ Font Newer ∷ Font (Name NoRecord) ∷ Font Unfit ∷ Empty ∷ NoFace ∷ []
+    LevelAbove ∷ NoSlot ∷ Taken ∷ Font (Os2 os2.TooShort) ∷ Font (Os2 (os2.RuleBroken Regular)) ∷ Font Newer ∷ Font (Name NoRecord) ∷ Font Unfit ∷ Empty ∷ NoFace ∷ []
 
 pub numbers : map (λ r. (said_refusal r).number) refusals ≡ 1 ∷ 54 ∷ 53 ∷ 2 ∷ 3 ∷ 52 ∷ 20 ∷ 51 ∷ 55 ∷ 50 ∷ []
 numbers = refl
@@ -31,10 +31,10 @@ numbers = refl
 pub carries : map (λ r. (said_refusal r).carried) refusals ≡ none ∷ none ∷ none ∷ none ∷ some 6 ∷ none ∷ none ∷ none ∷ none ∷ none ∷ []
 carries = refl
 
-pub changes : map said_change (Change·.Done ∷ Change·.Refused Taken ∷ Change·.Refused Empty ∷ []) ≡ accepted ∷ refused 53 none ∷ refused 55 none ∷ []
+pub changes : map said_change (Ok tt ∷ Err Taken ∷ Err Empty ∷ []) ≡ accepted ∷ refused 53 none ∷ refused 55 none ∷ []
 changes = refl
 
-pub choices : map said_choice (Choice·.Slot 0 ∷ Choice·.Slot 31 ∷ Choice·.Refused NoFace ∷ []) ≡ answered 0 ∷ answered 31 ∷ refused 50 none ∷ []
+pub choices : map said_choice (Ok 0 ∷ Ok 31 ∷ Err NoFace ∷ []) ≡ answered 0 ∷ answered 31 ∷ refused 50 none ∷ []
 choices = refl
 
 -- a slot of 64 bytes, by its slope and its length: the bytes behind the family are not looked at

@@ -1,21 +1,27 @@
 -- The rank of what a slot holds.
 -- Assumes nothing.
-use Prim.Native.Nat.{ℕ, ◌+◌, ◌<◌}
+use Prim.Native.Nat.{ℕ, ◌+◌, ◌<◌, ◌≤◌}
 use mathlib.Core.Path.{◌≡◌, refl}
 use mathlib.Core.Bool.{true, false, not}
 use mathlib.Core.List.{List}
 use native.Mathlib.Numerals.{add-one}
+use native.Mathlib.Omega.{arith}
 use lib.Dec.{eqb}
-use lib.ListN.{take}
+use lib.ListN.{length, take}
 use Rattle.same_bytes.specs.Same.{same}
 use Rattle.choice.specs.declared.Want.{Want}
 use Rattle.choice.specs.Faces.{Slots}
 use Rattle.choice.specs.Ranks.{of_family, best, rank, no_rank, Stands, lower}
 use Rattle.choice.proofs.Ranking.{stands_lower}
 use Rattle.face.specs.Reading.{unfit}
+use Rattle.face.proofs.Settling.{fit_exactly}
 use Rattle.chooser.specs.declared.Slot.{Slot}
 use Rattle.chooser.specs.Racks.{slot_of}
 use Rattle.chooser.proofs.Slots.{slot_none, slot_face}
+
+-- a length that is fit lies within the text
+pub within : (text : List ℕ) {n : ℕ} → length text ≡ 64 → unfit n ≡ false → n ≤ length text
+within text {n} e fit = let f = ((fit_exactly n).0 fit).1 in omega (arith, e, f)
 
 module _ (w : Want) (family : List ℕ) (i : ℕ) (s : Slot) where
   pub stands_none : unfit s.length ≡ true → Stands w no_rank (of_family family i (slot_of s))

@@ -9,6 +9,7 @@ use native.Mathlib.Decide.{ℕ_discrete, dec_lt}
 use native.Mathlib.Omega.{arith}
 use borrow.Author.Tests.{eq-eqb, ne_eqb}
 use lib.Dec.{eqb}
+use mir.Val.{bool_byte}
 use lib.ListN.{length, length-drop, get_or, take, drop, set, replicate, get_or-replicate, get_or-eq_default}
 use lib.Seq.{get_or-set_same, get_or-set_other, length-take-le}
 use Rattle.choice.specs.Faces.{Face, Slots}
@@ -71,7 +72,7 @@ unfolding slot_of
 slot_face s e = rw e
 
 -- a slope as a number
-pub slope_back : (t : Bool) → not (eqb (cond t 1 0) 0) ≡ t
+slope_back : (t : Bool) → not (eqb (bool_byte t) 0) ≡ t
 slope_back true = refl
 slope_back false = refl
 
@@ -85,7 +86,7 @@ part_length n start len h = rw (part_is n start len) (length-take-le len (drop s
 -- the slot that holds a face
 pub kept_is : (s : Slot) (n : List ℕ) (x : FaceAt) → Fits n x →
     take (length (take (x.start + x.len - x.start) (drop x.start n))) s.family ≡ take (x.start + x.len - x.start) (drop x.start n) →
-    s.length ≡ x.len → s.weight ≡ x.weight → s.width ≡ x.width → s.sloped ≡ cond x.sloped 1 0 → slot_of s ≡ some (face_at n x)
+    s.length ≡ x.len → s.weight ≡ x.weight → s.width ≡ x.width → s.sloped ≡ bool_byte x.sloped → slot_of s ≡ some (face_at n x)
 kept_is s n x f t l w v b =
     let u : unfit s.length ≡ false = ap unfit l ∙ (fit_exactly x.len).1 (f.some, f.most) in
     let a : take s.length s.family ≡ take x.len (drop x.start n) =

@@ -11,7 +11,7 @@ use borrow.Author.Tests.{lt-ltb, le-ltb}
 use lib.Dec.{ltb}
 use lib.ListN.{length, set}
 use Rattle.outcomes.specs.Firsts.{when, ◌then◌}
-use Rattle.outcomes.specs.Outcomes.{bare, Outcome, refused, answered, accepted, unless}
+use Rattle.outcomes.specs.Outcomes.{bare, Outcome, refused, answered, accepted, refusing, unless}
 use Rattle.outcomes.proofs.Tests as tests
 use Rattle.outcomes.proofs.Laws.{unless_answered, passed}
 use Rattle.choice.specs.Faces.{Face}
@@ -20,9 +20,11 @@ use Rattle.face.specs.Reading.{face_in}
 use Rattle.chooser.specs.declared.Slot.{Slot}
 use Rattle.chooser.specs.declared.Rack.{Rack}
 use Rattle.chooser.specs.Racks.{slot_of, held}
-use Rattle.chooser.specs.Calls.{taken, put, no_such_slot, before_tables, load_of, emptying, unload_of, done_of, after_load, after_unload, slot_after, slot_left}
-use Rattle.chooser.specs.declared.Changed.{Changed}
-use Rattle.chooser.specs.Replies.{said_change, Filled, Cleared, Place}
+use Rattle.chooser.specs.Calls.{taken, put, no_such_slot, before_tables, load_of, emptying, unload_of, after_load, after_unload, slot_after, slot_left}
+use Rattle.std.specs.Prelude.{Result, Ok, Err, IsErrAnd}
+use Rattle.face.specs.declared.FaceAt.{FaceAt}
+use Rattle.chooser.specs.declared.Refusal.{Refusal}
+use Rattle.chooser.specs.Replies.{said_refusal, said_reading, ReadingFits, Place}
 use Rattle.chooser.proofs.Settling.{no_such_exactly}
 use Rattle.chooser.proofs.Slots.{held_set, put_itself}
 
@@ -56,9 +58,6 @@ module _ (r : Rack) (i at : ℕ) (p : Place i at) where
       by : Dec (31 < i) → unless (before_tables (taken (held r at)) i L) (face_in L b n) ≡ unless (before_tables (taken (held r i)) i L) (face_in L b n)
       by (yes h) = ap (λ q. unless q (face_in L b n)) (before_far _ _ i L h)
       by (no h) = ap (λ k. unless (before_tables (taken (held r k)) i L) (face_in L b n)) (p.own (omega arith))
-
-  pub load_is : (L : ℕ) (b n : List ℕ) {t : Bool} {o : Outcome Face} → t ≡ taken (held r at) → o ≡ unless (before_tables t i L) (face_in L b n) → o ≡ load_of (held r) i L b n
-  load_is L b n e d = d ∙ ap (λ q. unless (before_tables q i L) (face_in L b n)) e ∙ found L b n
 
   pub unload_is : {t : Bool} {o : Outcome (Unit {0})} → t ≡ taken (held r at) → o ≡ emptying t i → o ≡ unload_of (held r) i
   unfolding unload_of
@@ -129,19 +128,8 @@ place_none i e = let h = (no_such_exactly i).0 e in record { inside = omega arit
 pub place_own : (i : ℕ) → no_such_slot i ≡ false → Place i i
 place_own i e = let h = (tests.fails _ (no_such_exactly i)).0 e in record { inside = omega arith; own = λ l. refl }
 
--- ---- one slot
-
-module _ (x : Option Face) (r : Changed) where
-  pub fill_face : (o : Outcome Face) (f : Face) → o ≡ answered f → said_change r.answer ≡ accepted → slot_of r.slot ≡ some f → Filled x r o
-  unfolding done_of
-  fill_face o f e a s = record { answer = a ∙ sym (ap done_of e); slot = s ∙ sym (ap (slot_after x) e) }
-
-  pub fill_refused : (o : Outcome Face) (k : ℕ) (c : Option ℕ) → o ≡ refused k c → said_change r.answer ≡ refused k c → slot_of r.slot ≡ x → Filled x r o
-  unfolding done_of
-  fill_refused o k c e a s = record { answer = a ∙ sym (ap done_of e); slot = s ∙ sym (ap (slot_after x) e) }
-
-  pub clear_done : (o : Outcome (Unit {0})) → o ≡ accepted → said_change r.answer ≡ accepted → slot_of r.slot ≡ none → Cleared x r o
-  clear_done o e a s = record { answer = a ∙ sym e; slot = s ∙ sym (ap (slot_left x) e) }
-
-  pub clear_refused : (o : Outcome (Unit {0})) (k : ℕ) (c : Option ℕ) → o ≡ refused k c → said_change r.answer ≡ refused k c → slot_of r.slot ≡ x → Cleared x r o
-  clear_refused o k c e a s = record { answer = a ∙ sym e; slot = s ∙ sym (ap (slot_left x) e) }
+-- an error that is passed on is the answer, and has no text to fit
+pub passed_on : (n : List ℕ) (r : Result FaceAt Refusal) (e : Refusal) {o : Outcome Face} → IsErrAnd r (λ x. x ≡ e) → refusing (said_refusal e) ≡ o →
+    (said_reading n r ≡ o) × ReadingFits n r
+passed_on n (Ok x) e h d = absurd h
+passed_on n (Err x) e h d = (ap (λ y. refusing (said_refusal y)) h ∙ d, tt)

@@ -3,30 +3,30 @@
 // to one slot, which is written back on the one way through the call, so that the rack is copied once in and once out; a request copies it once.
 #![tactic(auto)]
 
-ghost use Rattle.std.specs.Prelude.{◌≡◌, ◌<◌, ◌≤◌, cond, length, take};
+ghost use Rattle.std.specs.Prelude.{◌≡◌, ◌<◌, ◌≤◌, length, take};
 ghost use Rattle.std.proofs.Math.Option.{none, some};
 ghost use Rattle.outcomes.specs.Outcomes.{refusal_of, unless};
-ghost use Rattle.same_bytes.specs.Same.{same};
 ghost use Rattle.choice.specs.Ranks.{of_family, request_of, Stands};
 ghost use Rattle.face.specs.Reading.{face_in};
 ghost use Rattle.face.specs.Replies.{face_at, Fits};
 ghost use Rattle.chooser.specs.Racks.{slot_of, held};
-ghost use Rattle.chooser.specs.Calls.{nobody, taken, no_such_slot, before_tables, load_of, emptying, unload_of, done_of, after_load, after_unload};
-ghost use Rattle.chooser.specs.Replies.{said_refusal, said_reading, ReadingFits, said_change, Filled, Cleared, said_choice, Place};
+ghost use Rattle.chooser.specs.Calls.{nobody, taken, no_such_slot, before_tables, load_of, emptying, unload_of, done_of, after_load, after_unload, slot_after, slot_left};
+ghost use Rattle.chooser.specs.Replies.{said_refusal, said_reading, ReadingFits, said_change, said_choice, Place};
+ghost use Rattle.chooser.specs.declared.Refusal.TheVariants.{LevelAbove, Font};
 
 pub use choice::Want;
 use choice::{NO_FACE, lower, rank};
-use face::{FAMILY_BYTES, FaceAt, Found, is_unfit};
-use level::{Level, LevelAnswer};
+use face::{FAMILY_BYTES, FaceAt, is_unfit};
+use level::Level;
 use outcomes::Told;
 use same_bytes::same_fresh;
 
 // How many slots a rack has.
 pub const SLOT_COUNT: usize = 32;
 
-// A slot: it holds a face exactly where the family's length is 1 to 64.
+// A slot, whose members are those of the C interface: it holds a face exactly where the family's length is 1 to 64.
 #[repr(C)]
-#[derive(Clone, Copy)]
+#[derive(Clone, Copy, Debug, PartialEq, Eq)]
 pub struct Slot {
     pub weight: u16,
     pub width: u16,
@@ -37,14 +37,15 @@ pub struct Slot {
     pub family: [u8; FAMILY_BYTES],
 }
 
+// A rack, as C has it.
 #[repr(C)]
-#[derive(Clone, Copy)]
+#[derive(Clone, Copy, Debug, PartialEq, Eq)]
 pub struct Rack {
     pub slots: [Slot; SLOT_COUNT],
 }
 
 // Why a call is refused.
-#[derive(Drop)]
+#[derive(Clone, Copy, Debug, PartialEq, Eq)]
 pub enum Refusal {
     // 1: the level is above 5.
     LevelAbove,
@@ -60,64 +61,61 @@ pub enum Refusal {
     NoFace,
 }
 
-// The face to load, or why there is none.
-#[derive(Drop)]
-enum Reading {
-    Face(FaceAt),
-    Refused(Refusal),
+impl From<level::LevelAbove> for Refusal {
+    ghost from_gives = { λ above r. r ≡ LevelAbove };
+
+    fn from(_above: level::LevelAbove) -> Refusal {
+        Refusal::LevelAbove
+    }
 }
 
-// What a load or an unload answers.
-#[derive(Drop)]
-pub enum Change {
-    Done,
-    Refused(Refusal),
+impl From<face::Refusal> for Refusal {
+    ghost from_gives = { λ why r. r ≡ Font why };
+
+    fn from(why: face::Refusal) -> Refusal {
+        Refusal::Font(why)
+    }
 }
 
-// What is answered, and the slot after it.
-#[derive(Drop)]
-struct Changed {
-    answer: Change,
-    slot: Slot,
-}
+// The papers' number, and what it carries.
+impl From<Refusal> for Told {
+    ghost from_gives = { λ why told. refusal_of told ≡ said_refusal why };
 
-// A load's or an unload's answer, and the rack after it.
-#[derive(Drop)]
-pub struct Loaded {
-    pub answer: Change,
-    pub rack: Rack,
-}
-
-// What a request answers.
-#[derive(Drop)]
-pub enum Choice {
-    Slot(u32),
-    Refused(Refusal),
-}
-
-impl Refusal {
-    // The papers' number, and what it carries.
-    pub fn told(self) -> Told
-        ensures { refusal_of result ≡ said_refusal self }
-    {
-        match self {
+    fn from(why: Refusal) -> Told {
+        match why {
             Refusal::LevelAbove => Told::bare(1),
             Refusal::NoSlot => Told::bare(54),
             Refusal::Taken => Told::bare(53),
-            Refusal::Font(why) => why.told(),
+            Refusal::Font(refusal) => Told::from(refusal),
             Refusal::Empty => Told::bare(55),
             Refusal::NoFace => Told::bare(50),
         }
     }
 }
 
+// A load's or an unload's answer, and the rack after it.
+#[derive(Clone, Copy, Debug, PartialEq, Eq)]
+pub struct Loaded {
+    pub answer: Result<(), Refusal>,
+    pub rack: Rack,
+}
+
+// A slot that holds no face.
+const EMPTY_SLOT: Slot = Slot {
+    weight: 0,
+    width: 0,
+    sloped: 0,
+    length: 0,
+    family: [0; FAMILY_BYTES],
+};
+
 // A rack of empty slots.
 pub fn empty() -> Rack
     ensures { held result ≡ nobody }
 {
-    let slot = empty_slot();
-    let slots = [slot; SLOT_COUNT];
-    Rack { slots }
+    Rack {
+        slots: [EMPTY_SLOT; SLOT_COUNT],
+    }
 }
 
 // Loads a face, by its two tables read at a level, into a slot.
@@ -127,10 +125,8 @@ pub fn load(mut rack: Rack, slot: u32, level: u32, os2: &[u8], name: &[u8]) -> L
 {
     let at = place(slot);
     let there = rack.slots[at];
-    let filled = fill(there, slot, level, os2, name);
-    let after = filled.slot;
+    let (answer, after) = fill(there, slot, level, os2, name);
     rack.slots[at] = after;
-    let answer = filled.answer;
     Loaded { answer, rack }
 }
 
@@ -140,28 +136,23 @@ pub fn unload(mut rack: Rack, slot: u32) -> Loaded
 {
     let at = place(slot);
     let there = rack.slots[at];
-    let cleared = clear(there, slot);
-    let after = cleared.slot;
+    let (answer, after) = clear(there, slot);
     rack.slots[at] = after;
-    let answer = cleared.answer;
     Loaded { answer, rack }
 }
 
 // Chooses among the loaded faces of a family the one that comes first.
-pub fn request(rack: Rack, family: &[u8], want: Want) -> Choice
+pub fn request(rack: Rack, family: &[u8], want: Want) -> Result<u32, Refusal>
     ensures { said_choice result ≡ request_of (held rack) family.now want }
 {
     let mut best = NO_FACE;
-    let mut i = 0;
-    while i < SLOT_COUNT {
-        let slot = rack.slots[i];
+    for (i, &slot) in rack.slots.iter().enumerate() {
         best = lower(best, rank_at(family, want, i, slot));
-        i += 1;
     }
     if best == NO_FACE {
-        return Choice::Refused(Refusal::NoFace);
+        return Err(Refusal::NoFace);
     }
-    Choice::Slot((best % 32) as u32)
+    Ok((best % 32) as u32)
 }
 
 // Whether no slot has the number.
@@ -171,7 +162,7 @@ fn is_none(slot: u32) -> bool
     31 < slot
 }
 
-// Where a slot lies, and for a number that no slot has any place.
+// Where a slot lies, and for a number that no slot has any place, so that a call has one way through, on which it reads and writes one slot.
 fn place(slot: u32) -> usize
     ensures { Place slot result }
 {
@@ -181,84 +172,53 @@ fn place(slot: u32) -> usize
     slot as usize
 }
 
-// The face to load into a slot that is taken or not: the refusals in their order, 1, 54, 53 and those of the tables.
-fn loading(level: u32, slot: u32, taken: bool, os2: &[u8], name: &[u8]) -> Reading
+// The face to load into a slot that is taken or not: the refusals in their order, 1, 54, 53 and those of the tables. A call of its own: put in place,
+// it keeps the compiler from seeing that the rack need not be cleared twice before it is copied, and a load takes 1.6 times as long.
+#[inline(never)]
+fn loading(level: u32, slot: u32, taken: bool, os2: &[u8], name: &[u8]) -> Result<FaceAt, Refusal>
     ensures { (said_reading name.now result ≡ unless (before_tables taken slot level) (face_in level os2.now name.now)) × ReadingFits name.now result }
 {
-    if let LevelAnswer::Refused = Level::new(level) {
-        return Reading::Refused(Refusal::LevelAbove);
-    }
+    Level::try_from(level)?;
     if is_none(slot) {
-        return Reading::Refused(Refusal::NoSlot);
+        return Err(Refusal::NoSlot);
     }
     if taken {
-        return Reading::Refused(Refusal::Taken);
+        return Err(Refusal::Taken);
     }
-    match face::read(os2, name, level) {
-        Found::Face(face) => Reading::Face(face),
-        Found::Refused(why) => Reading::Refused(Refusal::Font(why)),
-    }
+    let face = face::read(os2, name, level)?;
+    Ok(face)
 }
 
-// What a load makes of the slot that lies at its place.
-fn fill(there: Slot, slot: u32, level: u32, os2: &[u8], name: &[u8]) -> Changed
-    ensures { Filled (slot_of there) result (unless (before_tables (taken (slot_of there)) slot level) (face_in level os2.now name.now)) }
+// What a load answers, and what it makes of the slot that lies at its place. (A Result of the slot would be copied in pieces.)
+fn fill(there: Slot, slot: u32, level: u32, os2: &[u8], name: &[u8]) -> (Result<(), Refusal>, Slot)
+    ensures answer { said_change result.0 ≡ done_of (unless (before_tables (taken (slot_of there)) slot level) (face_in level os2.now name.now)) }
+    ensures slot { slot_of result.1 ≡ slot_after (slot_of there) (unless (before_tables (taken (slot_of there)) slot level) (face_in level os2.now name.now)) }
 {
     match loading(level, slot, is_taken(there), os2, name) {
-        Reading::Face(face) => {
-            let kept = kept(name, face);
-            Changed {
-                answer: Change::Done,
-                slot: kept,
-            }
-        }
-        Reading::Refused(why) => Changed {
-            answer: Change::Refused(why),
-            slot: there,
-        },
+        Ok(face) => (Ok(()), kept(name, face)),
+        Err(why) => (Err(why), there),
     }
 }
 
-// What an unload makes of it: 54, then 55.
-fn clear(there: Slot, slot: u32) -> Changed
-    ensures { Cleared (slot_of there) result (emptying (taken (slot_of there)) slot) }
+// What an unload answers, and what it makes of that slot: 54, then 55.
+fn clear(there: Slot, slot: u32) -> (Result<(), Refusal>, Slot)
+    ensures answer { said_change result.0 ≡ emptying (taken (slot_of there)) slot }
+    ensures slot { slot_of result.1 ≡ slot_left (slot_of there) (emptying (taken (slot_of there)) slot) }
 {
     if is_none(slot) {
-        return Changed {
-            answer: Change::Refused(Refusal::NoSlot),
-            slot: there,
-        };
+        return (Err(Refusal::NoSlot), there);
     }
     if is_taken(there) {
-        let empty = empty_slot();
-        return Changed {
-            answer: Change::Done,
-            slot: empty,
-        };
+        return (Ok(()), EMPTY_SLOT);
     }
-    Changed {
-        answer: Change::Refused(Refusal::Empty),
-        slot: there,
-    }
-}
-
-fn empty_slot() -> Slot
-    ensures { slot_of result ≡ none }
-{
-    Slot {
-        weight: 0,
-        width: 0,
-        sloped: 0,
-        length: 0,
-        family: [0; FAMILY_BYTES],
-    }
+    (Err(Refusal::Empty), there)
 }
 
 // Whether a slot holds a face.
 fn is_taken(slot: Slot) -> bool
     ensures { result ≡ taken (slot_of slot) }
 {
-    !is_unfit(slot.length as usize)
+    !is_unfit(usize::from(slot.length))
 }
 
 // The slot that holds a face, its family copied out of the 'name' table.
@@ -266,62 +226,38 @@ fn kept(name: &[u8], face: FaceAt) -> Slot
     requires { Fits name.now face }
     ensures { slot_of result ≡ some (face_at name.now face) }
 {
-    let start = face.start;
-    let len = face.len;
-    let end = start + len;
-    let family = front(&name[start..end]);
+    let end = face.start + face.len;
     Slot {
         weight: face.weight,
         width: face.width,
-        sloped: slope_number(face.sloped),
-        length: len as u16,
-        family,
+        sloped: u16::from(face.sloped),
+        length: face.len as u16,
+        family: front(&name[face.start..end]),
     }
 }
 
-// A text of at most 64 bytes, and zeros behind it. (Of a loop over single bytes the compiler copies many at once.)
+// A text of at most 64 bytes, and zeros behind it.
 fn front(text: &[u8]) -> [u8; FAMILY_BYTES]
     requires { length text.now ≤ 64 }
     ensures { take (length text.now) result ≡ text.now }
 {
-    let mut family = [0u8; FAMILY_BYTES];
-    let mut i = 0;
-    while i < text.len() {
-        family[i] = text[i];
-        i += 1;
-    }
+    let mut family = [0; FAMILY_BYTES];
+    family[..text.len()].copy_from_slice(text);
     family
 }
 
-fn slope_number(sloped: bool) -> u16
-    ensures { result ≡ cond sloped 1 0 }
-{
-    if sloped {
-        return 1;
-    }
-    0
-}
-
-// The rank of what a slot holds, or that of no face.
+// The rank of what a slot holds, or that of no face, which is above every rank: of two Options `min` would give the None.
 fn rank_at(family: &[u8], want: Want, i: usize, slot: Slot) -> u64
     requires { i < 32 }
     ensures { Stands want result (of_family family.now i (slot_of slot)) }
 {
-    let len = slot.length as usize;
+    let len = usize::from(slot.length);
     if is_unfit(len) {
         return NO_FACE;
     }
     let text = slot.family;
-    if has_family(text, len, family) {
+    if same_fresh(&text[..len], family) {
         return rank(want, i, slot.weight, slot.width, slot.sloped != 0);
     }
     NO_FACE
-}
-
-// Whether the first bytes of a slot's text are the family.
-fn has_family(text: [u8; FAMILY_BYTES], len: usize, family: &[u8]) -> bool
-    requires { len ≤ 64 }
-    ensures { result ≡ same (take len text) family.now }
-{
-    same_fresh(&text[..len], family)
 }

@@ -1,16 +1,21 @@
 -- What stands in the words of the chooser's answers, member by member; and from them the answer can be read back, so they lose nothing.
 -- Assumes nothing.
 use Prim.Native.Nat.{ℕ}
-use mathlib.Core.Path.{◌≡◌, refl}
+use mathlib.Core.Path.{◌≡◌, refl, ap, ◌∙◌}
+use Rattle.std.specs.Prelude.{Result, Ok, Err, OnOk, IfErr}
+use Rattle.outcomes.specs.declared.Told.{Told}
 use mathlib.Core.Bool.{true, false}
 use mathlib.Core.Option.{Option, none, some}
 use mathlib.Core.List.{List, [], ◌∷◌, map}
-use Rattle.outcomes.specs.Outcomes.{bare, Outcome, refused, answered, found_or}
+use Rattle.outcomes.specs.Outcomes.{bare, refusal_of, Outcome, refused, answered, found_or}
 use Rattle.choice.specs.Faces.{Slots}
 use Rattle.choice.specs.Ranks.{Placed, best, request_of}
 use Rattle.choice.specs.declared.Want.{Want}
 use Rattle.chooser.specs.Calls.{done_of}
-use Rattle.refusal_words.specs.Words.{refusal_words, outcome_refusal}
+use Rattle.chooser.specs.Replies.{said_refusal, said_change}
+use Rattle.chooser.specs.declared.Refusal.{Refusal}
+use Rattle.refusal_words.specs.declared.GvRefusal.{GvRefusal}
+use Rattle.refusal_words.specs.Words.{no_refusal, told_words, refusal_words, outcome_refusal}
 use Rattle.refusal_words.proofs.ReadBack.{said}
 use Rattle.chooser_words.specs.declared.GvChosen.{GvChosen}
 use Rattle.chooser_words.specs.Words.{chosen_words, want_of}
@@ -36,6 +41,14 @@ pub done_words : {A : Type 0} (o : Outcome A) → outcome_refusal (done_of o) �
 unfolding outcome_refusal done_of
 done_words (refused n c) = refl
 done_words (answered x) = refl
+
+-- a load's or an unload's words, from what its refusals convert to
+pub change_said : (r : Result (Unit {0}) Refusal) {w : GvRefusal} → OnOk r (w ≡ no_refusal)
+    → IfErr r (λ e. (told : Told) × (refusal_of told ≡ said_refusal e) × (w ≡ told_words (refusal_of told)))
+    → w ≡ outcome_refusal (said_change r)
+unfolding outcome_refusal
+change_said (Ok u) a b = a
+change_said (Err e) a b = b.2 ∙ ap told_words b.1
 
 -- ---- read back
 

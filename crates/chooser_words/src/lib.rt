@@ -4,16 +4,16 @@
 #![tactic(auto)]
 
 ghost use Rattle.std.specs.Prelude.{◌≡◌};
-ghost use Rattle.refusal_words.specs.Words.{outcome_refusal};
-ghost use Rattle.chooser.specs.Replies.{said_change, said_choice};
+ghost use Rattle.chooser.specs.Replies.{said_choice};
 ghost use Rattle.chooser_words.specs.Words.{chosen_words, want_of};
 
-use chooser::{Change, Choice, Rack, Want};
-use refusal_words::{GvRefusal, NO_REFUSAL, told_words};
+use chooser::{Rack, Refusal, Want};
+use outcomes::Told;
+use refusal_words::{GvRefusal, NO_REFUSAL};
 
 // A load's or an unload's answer, and the rack after it.
 #[repr(C)]
-#[derive(Drop)]
+#[derive(Clone, Copy)]
 pub struct GvLoaded {
     pub refusal: GvRefusal,
     pub rack: Rack,
@@ -21,12 +21,13 @@ pub struct GvLoaded {
 
 // A request's answer: the slot that is chosen.
 #[repr(C)]
-#[derive(Drop)]
+#[derive(Clone, Copy, Debug, PartialEq, Eq)]
 pub struct GvChosen {
     pub refusal: GvRefusal,
     pub slot: u32,
 }
 
+// `new`: a proof can hardly rewrite a struct that is made of what a call gives.
 impl GvChosen {
     fn new(refusal: GvRefusal, slot: u32) -> GvChosen
         ensures { result ≡ record { refusal = refusal; slot = slot } }
@@ -46,22 +47,12 @@ pub fn want_of(weight: u32, width: u32, slope: u32) -> Want
     }
 }
 
-// What a load or an unload says.
-pub fn change_words(answer: Change) -> GvRefusal
-    ensures { result ≡ outcome_refusal (said_change answer) }
-{
-    match answer {
-        Change::Done => NO_REFUSAL,
-        Change::Refused(why) => told_words(why.told()),
-    }
-}
-
 // What a request says.
-pub fn choice_words(choice: Choice) -> GvChosen
+pub fn choice_words(choice: Result<u32, Refusal>) -> GvChosen
     ensures { result ≡ chosen_words (said_choice choice) }
 {
     match choice {
-        Choice::Slot(slot) => GvChosen::new(NO_REFUSAL, slot),
-        Choice::Refused(why) => GvChosen::new(told_words(why.told()), 0),
+        Ok(slot) => GvChosen::new(NO_REFUSAL, slot),
+        Err(why) => GvChosen::new(GvRefusal::from(Told::from(why)), 0),
     }
 }

@@ -5,7 +5,7 @@ use mathlib.Core.Path.{◌≡◌, refl}
 use mathlib.Core.List.{List}
 use native.Mathlib.Omega.{arith}
 use borrow.Author.Tests.{le-ltb}
-use lib.IntN.{pos}
+use lib.IntN.{ℤ, pos}
 use Rattle.characters.specs.Texts.{codes}
 use Rattle.lines.specs.Numerals.{decimal}
 use Rattle.os2_figures.specs.Figures.{signed_text}
@@ -17,7 +17,7 @@ use Rattle.os2_compare.specs.Differences.{kind_of, figure_of}
 use Rattle.name_compare.specs.Differences.{left_only, right_only, both_other}
 use Rattle.compare_lines.specs.Lines.{which_text, answer_text}
 
-pub answer_reads : (b : List ℕ) (a : Answer) → answer_text (pos (kind_of a)) (figure_of a) ≡ listings.answer_text b (said_answer a)
+pub answer_reads : (b : List ℕ) (a : Answer ℤ) → answer_text (pos (kind_of a)) (figure_of a) ≡ listings.answer_text b (said_answer a)
 unfolding answer_text
 answer_reads b (Value x) = refl
 answer_reads b Absent = refl

@@ -9,8 +9,7 @@ use Rattle.lines.specs.Numerals.{digits, decimal}
 use Rattle.lines.specs.Lines.{too_long}
 use Rattle.name_lines.specs.Lines.{key_parts}
 use Rattle.os2_figures.specs.Figures.{signed_text}
-use Rattle.comparing.specs.declared.Side.TheVariants.{Neither, Left, Right}
-use Rattle.comparing.specs.Comparisons.{Blamed, on}
+use Rattle.comparing.specs.Comparisons.{Neither, Left, Right, Blamed, on}
 use Rattle.compare_lines.specs.Lines.{blamed_line, too_long_line, which_text, name_line, answer_text, os2_line}
 
 abbrev blames : List Blamed

@@ -1,14 +1,11 @@
 -- The lines of a comparison of two tables, each as its bytes. How they read stands in docs/DECISIONS.md.
-use Rattle.std.specs.Prelude.{ℕ, ◌+◌, cond, List, [], ◌++◌, eqb, ℤ, pos}
+use Rattle.std.specs.Prelude.{ℕ, cond, List, [], ◌++◌, eqb, ℤ, pos}
 use Rattle.std.specs.Int.Signed.{lt_z}
 use Rattle.characters.specs.Texts.{codes}
-use Rattle.lines.specs.Numerals.{most_digits}
 use Rattle.lines.specs.Lines.{refusal_line, too_long}
 use Rattle.name_lines.specs.Lines.{key_parts}
 use Rattle.os2_figures.specs.Figures.{signed_text, signed_room}
-use Rattle.comparing.specs.declared.Side.{Side}
-use Rattle.comparing.specs.declared.Side.TheVariants.{Neither, Left, Right}
-use Rattle.comparing.specs.Comparisons.{Blamed}
+use Rattle.comparing.specs.Comparisons.{Side, Neither, Left, Right, Blamed}
 
 -- The `..Room` of a text is at least as many bytes as it has.
 
@@ -21,9 +18,6 @@ side_text Right = codes "right "
 abbrev pub side_room : ℕ
 side_room = 6
 
-abbrev pub refusal_room : ℕ
-refusal_room = 8 + most_digits + (4 + most_digits) + 1
-
 -- `left refused 17 at 1`, without a side `refused 1`
 unfoldable pub blamed_line : Blamed → List ℕ
 blamed_line b = side_text b.side ++ refusal_line b.refusal
@@ -35,9 +29,6 @@ too_long_line side = side_text side ++ too_long
 -- `left`, `right` or `both`, with the four numbers
 unfoldable pub which_text : ℕ → List ℕ
 which_text which = cond (eqb which 1) (codes "left") (cond (eqb which 2) (codes "right") (codes "both"))
-
-abbrev pub which_room : ℕ
-which_room = 5
 
 unfoldable pub name_line : ℕ → ℕ → ℕ → ℕ → ℕ → List ℕ
 name_line platform encoding language name which = which_text which ++ key_parts platform encoding language name ++ codes "\n"

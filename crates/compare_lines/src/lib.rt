@@ -1,21 +1,21 @@
 // The lines of a comparison of two tables: one for each row, the line of a refusal with its side, and the line of an input that is too long.
 // Document 02, Ask 2; docs/DECISIONS.md has how the lines read.
-// It relies on `comparing` for a refusal with its side, on `name_lines` and `os2_figures` for a key and a value as text, and on the pieces of lines of `lines`.
+// It relies on `comparing` for a refusal with its side, on `name_lines` and `os2_figures` for a key and a value as text, and on the lines of `lines`.
 #![tactic(auto)]
 
-ghost use Rattle.std.specs.Prelude.{◌+◌, ◌≤◌, ◌≡◌, length};
-ghost use Rattle.outcomes.specs.Outcomes.{refusal_of};
-ghost use Rattle.lines.specs.Pieces.{Put};
-ghost use Rattle.lines.specs.Lines.{line_of, refusal_line};
-ghost use Rattle.comparing.specs.Comparisons.{blamed_of};
-ghost use Rattle.compare_lines.specs.Lines.{side_room, side_text, refusal_room, blamed_line, too_long_line, which_room, which_text, name_line, answer_room, answer_text, os2_line};
+ghost use Rattle.std.specs.Prelude.{◌+◌, ◌≤◌, ◌≡◌, ◌++◌, length, slice_index, slice_index_or, pos};
+ghost use Rattle.lines.specs.Lines.{line_room};
+ghost use Rattle.comparing.specs.Comparisons.{side_of, blamed_of};
+ghost use Rattle.compare_lines.specs.Lines.{side_room, side_text, blamed_line, too_long_line, name_line, answer_room, answer_text, os2_line};
 
-use comparing::{Blame, Side};
-use lines::{LINE_ROOM, Line, put, put_numbered};
+use comparing::{Blame, ROW_SIZE, Side};
+use lines::Line;
+use name_layout::Key;
+use name_lines::put_key;
 use os2_figures::put_signed;
-use outcomes::{Carried, Told};
 
 // What a key is, in a row for two 'name' tables; what is neither is in both, with other string bytes.
+// A number, here and below: the C interface has rows of numbers.
 const ONLY_LEFT: u16 = 1;
 
 const ONLY_RIGHT: u16 = 2;
@@ -26,117 +26,91 @@ const ABSENT: i64 = 2;
 const NOT_KNOWN: i64 = 3;
 
 // The line of a refusal with its side.
+#[tactic(auto, unfolding(crate::specs::Lines::blamed_line))]
 pub fn blame_line(why: Blame) -> Line
-    ensures { line_of result ≡ blamed_line (blamed_of why) }
+    ensures { result ≡ blamed_line (blamed_of why) }
 {
-    let side = why.side;
-    let told = why.told;
-    let mut bytes = [0u8; LINE_ROOM];
-    let start = put_side(&mut bytes, 0, side);
-    let len = put_refusal(&mut bytes, start, told);
-    Line { bytes, len }
+    let mut line = side_line(why.side);
+    line.put_refusal(why.told);
+    line
 }
 
 // The line of an input that is too long.
-pub fn too_long_line(side: Side) -> Line
-    ensures { line_of result ≡ too_long_line side }
+#[tactic(auto, unfolding(crate::specs::Lines::too_long_line, lines::specs::Lines::too_long))]
+pub fn too_long_line(side: Option<Side>) -> Line
+    ensures { result ≡ too_long_line (side_of side) }
 {
-    let mut bytes = [0u8; LINE_ROOM];
-    let start = put_side(&mut bytes, 0, side);
-    let len = put(&mut bytes, start, b"too long\n");
-    Line { bytes, len }
+    let mut line = side_line(side);
+    line.put(b"too long\n");
+    line
 }
 
-// The line of a row for two 'name' tables.
-pub fn name_line(platform: u16, encoding: u16, language: u16, name: u16, which: u16) -> Line
-    ensures { line_of result ≡ name_line platform encoding language name which }
+// The line of a row for two 'name' tables: a key, and which of the tables have it.
+#[tactic(auto, unfolding(crate::specs::Lines::name_line, crate::specs::Lines::which_text))]
+pub fn name_line(row: &[u16; ROW_SIZE]) -> Line
+    ensures { let part = slice_index row.now in result ≡ name_line (part 0) (part 1) (part 2) (part 3) (part 4) }
 {
-    let mut bytes = [0u8; LINE_ROOM];
-    let start = put_which(&mut bytes, 0, which);
-    let end = name_lines::put_key(
-        &mut bytes,
-        start,
-        platform as u64,
-        encoding as u64,
-        language as u64,
-        name as u64,
-    );
-    let len = put(&mut bytes, end, b"\n");
-    Line { bytes, len }
+    let [platform, encoding, language, name, which] = *row;
+    let key = Key {
+        platform: u64::from(platform),
+        encoding: u64::from(encoding),
+        language: u64::from(language),
+        name: u64::from(name),
+    };
+    let word: &[u8] = match which {
+        ONLY_LEFT => b"left",
+        ONLY_RIGHT => b"right",
+        _ => b"both",
+    };
+    let mut line = Line::new();
+    line.put(word);
+    put_key(&mut line, key);
+    line.put(b"\n");
+    line
 }
 
-// The line of a row for two 'OS/2' tables.
-pub fn os2_line(
-    field: i64,
-    left_kind: i64,
-    left_value: i64,
-    right_kind: i64,
-    right_value: i64,
-) -> Line
-    ensures { line_of result ≡ os2_line field left_kind left_value right_kind right_value }
+// The line of a row for two 'OS/2' tables: a field, and on each side what the answer is and its value.
+#[tactic(auto, unfolding(crate::specs::Lines::os2_line))]
+pub fn os2_line(row: &[i64; ROW_SIZE]) -> Line
+    ensures { let part = slice_index_or row.now in result ≡ os2_line (part 0 (pos 0)) (part 1 (pos 0)) (part 2 (pos 0)) (part 3 (pos 0)) (part 4 (pos 0)) }
 {
-    let mut bytes = [0u8; LINE_ROOM];
-    let field_end = put_signed(&mut bytes, 0, field);
-    let left_start = put(&mut bytes, field_end, b" ");
-    let left_end = put_answer(&mut bytes, left_start, left_kind, left_value);
-    let right_start = put(&mut bytes, left_end, b" ");
-    let right_end = put_answer(&mut bytes, right_start, right_kind, right_value);
-    let len = put(&mut bytes, right_end, b"\n");
-    Line { bytes, len }
+    let [field, left_kind, left_value, right_kind, right_value] = *row;
+    let mut line = Line::new();
+    put_signed(&mut line, field);
+    line.put(b" ");
+    put_answer(&mut line, left_kind, left_value);
+    line.put(b" ");
+    put_answer(&mut line, right_kind, right_value);
+    line.put(b"\n");
+    line
 }
 
-// Puts what stands before the refusal of a side.
-fn put_side(out: &mut [u8], at: usize, side: Side) -> usize
-    requires { at + side_room ≤ length out.old }
-    ensures { Put out.old at out.new result side_room (side_text side) }
+// A line that so far has what stands before the refusal of a side.
+fn side_line(side: Option<Side>) -> Line
+    ensures text { result ≡ side_text (side_of side) }
+    ensures room { length result ≤ side_room }
 {
+    let mut line = Line::new();
     match side {
-        Side::Neither => put(out, at, b""),
-        Side::Left => put(out, at, b"left "),
-        Side::Right => put(out, at, b"right "),
+        None => {}
+        Some(Side::Left) => line.put(b"left "),
+        Some(Side::Right) => line.put(b"right "),
     }
-}
-
-// Puts the line of a refusal.
-fn put_refusal(out: &mut [u8], at: usize, told: Told) -> usize
-    requires { at + refusal_room ≤ length out.old }
-    ensures { Put out.old at out.new result refusal_room (refusal_line (refusal_of told)) }
-{
-    let carried = told.carried;
-    let end = put_numbered(out, at, b"refused ", told.number as u64);
-    match carried {
-        Carried::Nothing => put(out, end, b"\n"),
-        Carried::This(k) => {
-            let place_end = put_numbered(out, end, b" at ", k as u64);
-            put(out, place_end, b"\n")
-        }
-    }
-}
-
-// Puts which of the three a key is.
-fn put_which(out: &mut [u8], at: usize, which: u16) -> usize
-    requires { at + which_room ≤ length out.old }
-    ensures { Put out.old at out.new result which_room (which_text which) }
-{
-    if which == ONLY_LEFT {
-        return put(out, at, b"left");
-    }
-    if which == ONLY_RIGHT {
-        return put(out, at, b"right");
-    }
-    put(out, at, b"both")
+    line
 }
 
 // Puts an answer, given by what it is and its value.
-fn put_answer(out: &mut [u8], at: usize, kind: i64, figure: i64) -> usize
-    requires { at + answer_room ≤ length out.old }
-    ensures { Put out.old at out.new result answer_room (answer_text kind figure) }
+#[tactic(auto, unfolding(crate::specs::Lines::answer_text))]
+fn put_answer(line: &mut Line, kind: i64, figure: i64)
+    requires { length line.old + answer_room ≤ line_room }
+    ensures holds { line.new ≡ line.old ++ answer_text kind figure }
+    ensures room { length line.new ≤ length line.old + answer_room }
 {
     if kind < ABSENT {
-        return put_signed(out, at, figure);
+        put_signed(line, figure);
+    } else if kind < NOT_KNOWN {
+        line.put(b"absent");
+    } else {
+        line.put(b"not known");
     }
-    if kind < NOT_KNOWN {
-        return put(out, at, b"absent");
-    }
-    put(out, at, b"not known")
 }

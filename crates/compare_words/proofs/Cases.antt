@@ -3,7 +3,7 @@
 use Prim.Native.Nat.{ℕ}
 use mathlib.Core.Path.{◌≡◌, refl}
 use Rattle.outcomes.specs.Outcomes.{bare, carrying}
-use Rattle.comparing.specs.declared.Side.TheVariants.{Neither, Left, Right}
+use Rattle.comparing.specs.Comparisons.{Neither, Left, Right}
 use Rattle.comparing.specs.Comparisons.{listed, refused}
 use Rattle.compare_words.specs.declared.GvCompared.{GvCompared}
 use Rattle.compare_words.specs.Words.{compared_words}

@@ -1,2 +1,3 @@
 pub mod Cases
 pub mod ReadBack
+pub mod Compared

@@ -9,8 +9,8 @@ use Rattle.outcomes.specs.Outcomes.{Refusal}
 use Rattle.outcomes.proofs.Laws.{Only}
 use Rattle.refusal_words.specs.declared.GvRefusal.{GvRefusal}
 use Rattle.refusal_words.proofs.ReadBack.{Numbered}
-use Rattle.comparing.specs.declared.Side.{Side}
-use Rattle.comparing.specs.declared.Side.TheVariants.{Neither, Left, Right}
+use Rattle.comparing.specs.Comparisons.{Side}
+use Rattle.comparing.specs.Comparisons.{Neither, Left, Right}
 use Rattle.comparing.specs.Comparisons.{Blamed, Comparison, listed, refused, answer_of}
 use Rattle.compare_words.specs.declared.GvCompared.{GvCompared}
 use Rattle.compare_words.specs.Words.{compared_words}

@@ -1,8 +1,8 @@
 -- What a comparison says, in the words of C: what stands in each member of its struct. A member that does not apply is 0.
 use Rattle.std.specs.Prelude.{ℕ}
 use Rattle.refusal_words.specs.Words.{no_refusal, told_words}
-use Rattle.comparing.specs.declared.Side.{Side}
-use Rattle.comparing.specs.declared.Side.TheVariants.{Neither, Left, Right}
+use Rattle.comparing.specs.Comparisons.{Side}
+use Rattle.comparing.specs.Comparisons.{Neither, Left, Right}
 use Rattle.comparing.specs.Comparisons.{Blamed, on, Comparison, listed, refused}
 use Rattle.compare_words.specs.declared.GvCompared.{GvCompared}
 

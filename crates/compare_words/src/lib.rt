@@ -1,16 +1,15 @@
 // What a comparison of two tables says, in the words of C.
 // Document 02, Ask 2; `gv_compared` in `include/gyalvindor.h`. The rows themselves are numbers already, and C sees them as they are.
-// Relies on `refusal_words` for a refusal's words, and on `name_compare` and `os2_compare` for what a comparison says.
+// Relies on `refusal_words` for a refusal's words, and on `comparing` for what a comparison says.
 #![tactic(auto)]
 
-ghost use Rattle.std.specs.Prelude.{◌≡◌};
-ghost use Rattle.comparing.specs.Comparisons.{blamed_of};
-ghost use Rattle.name_compare.specs.Comparisons.{said_compared as saidNames};
-ghost use Rattle.os2_compare.specs.Comparisons.{said_compared as saidFields};
-ghost use Rattle.compare_words.specs.Words.{side_number, blamed_words, compared_words};
+ghost use Rattle.std.specs.Prelude.{◌≡◌, IfOk, IfErr};
+ghost use Rattle.comparing.specs.Comparisons.{listed, refused, blamed_of, side_of};
+ghost use Rattle.comparing.specs.declared.Blame.{Blame};
+ghost use Rattle.compare_words.specs.Words.{side_number, compared_words};
 
 use comparing::{Blame, Side};
-use refusal_words::{GvRefusal, NO_REFUSAL, told_words};
+use refusal_words::{GvRefusal, NO_REFUSAL};
 
 // Which of the two tables a refusal is about: neither, also where there is no refusal; the left one; the right one.
 const NO_SIDE: u32 = 0;
@@ -21,13 +20,14 @@ const RIGHT: u32 = 2;
 
 // The answer of a comparison: its refusal with the side, and how many rows were written.
 #[repr(C)]
-#[derive(Drop)]
+#[derive(Clone, Copy, Debug, PartialEq, Eq)]
 pub struct GvCompared {
     pub refusal: GvRefusal,
     pub side: u32,
     pub rows: usize,
 }
 
+// `new`: a proof can hardly rewrite a struct that is made of what a call gives.
 impl GvCompared {
     fn new(refusal: GvRefusal, side: u32, rows: usize) -> GvCompared
         ensures { result ≡ record { refusal = refusal; side = side; rows = rows } }
@@ -40,42 +40,31 @@ impl GvCompared {
     }
 }
 
-// What the comparison of two 'name' tables says.
-pub fn name_compared_words(done: name_compare::Compared) -> GvCompared
-    ensures { result ≡ compared_words (saidNames done) }
+// What the comparison of two tables says, whatever its refusals are.
+pub fn compared_words<E: Into<Blame>>(done: Result<usize, E>) -> GvCompared
+    ensures listed { IfOk done (λ n. result ≡ compared_words (listed n)) }
+    ensures refused { IfErr done (λ why. (blame : Blame) × E.converts why blame × (result ≡ compared_words (refused (blamed_of blame).side (blamed_of blame).refusal))) }
 {
     match done {
-        name_compare::Compared::Listed(rows) => GvCompared::new(NO_REFUSAL, NO_SIDE, rows),
-        name_compare::Compared::Refused(why) => blamed_words(why.told()),
-    }
-}
-
-// What the comparison of two 'OS/2' tables says.
-pub fn os2_compared_words(done: os2_compare::Compared) -> GvCompared
-    ensures { result ≡ compared_words (saidFields done) }
-{
-    match done {
-        os2_compare::Compared::Listed(rows) => GvCompared::new(NO_REFUSAL, NO_SIDE, rows),
-        os2_compare::Compared::Refused(why) => blamed_words(why.told()),
+        Ok(rows) => GvCompared::new(NO_REFUSAL, NO_SIDE, rows),
+        Err(why) => blamed_words(why.into()),
     }
 }
 
 // The words of a refusal with its side.
 fn blamed_words(why: Blame) -> GvCompared
-    ensures { result ≡ blamed_words (blamed_of why) }
+    ensures { result ≡ compared_words (refused (blamed_of why).side (blamed_of why).refusal) }
 {
-    let side = why.side;
-    let told = why.told;
-    GvCompared::new(told_words(told), side_number(side), 0)
+    GvCompared::new(GvRefusal::from(why.told), side_number(why.side), 0)
 }
 
 // The number of a side.
-fn side_number(side: Side) -> u32
-    ensures { result ≡ side_number side }
+fn side_number(side: Option<Side>) -> u32
+    ensures { result ≡ side_number (side_of side) }
 {
     match side {
-        Side::Neither => NO_SIDE,
-        Side::Left => LEFT,
-        Side::Right => RIGHT,
+        None => NO_SIDE,
+        Some(Side::Left) => LEFT,
+        Some(Side::Right) => RIGHT,
     }
 }

@@ -11,7 +11,7 @@ use native.Mathlib.Omega.{arith}
 use lib.ListN.{length}
 use Rattle.outcomes.specs.Firsts.{when, ◌then◌}
 use Rattle.outcomes.specs.Outcomes.{Refusal, bare}
-use Rattle.comparing.specs.declared.Side.TheVariants.{Neither, Left, Right}
+use Rattle.comparing.specs.Comparisons.{Neither, Left, Right}
 use Rattle.comparing.specs.Lists.{ListOf}
 use Rattle.comparing.specs.Rooms.{rows_of, is_too_many, front}
 use Rattle.comparing.specs.Comparisons.{Blamed, of, blame, Comparison, listed, refused, answer_of, room_after}

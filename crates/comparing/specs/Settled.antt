@@ -1,7 +1,7 @@
 -- Document 02, Ask 2, in propositions, over any comparison: which answer it gives, and what the lent room then holds.
 use Rattle.std.specs.Prelude.{◌*◌, ◌/◌, ◌<◌, ◌≤◌, List, ◌++◌, length, drop}
 use Rattle.outcomes.specs.Outcomes.{Refusal, bare}
-use Rattle.comparing.specs.declared.Side.TheVariants.{Neither, Left, Right}
+use Rattle.comparing.specs.Comparisons.{Neither, Left, Right}
 use Rattle.comparing.specs.Lists.{ListOf}
 use Rattle.comparing.specs.Rooms.{rows_of}
 use Rattle.comparing.specs.Comparisons.{Comparison, listed, refused}

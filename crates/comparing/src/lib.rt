@@ -5,32 +5,30 @@
 ghost use Rattle.std.specs.Prelude.{◌≡◌};
 ghost use Rattle.outcomes.specs.Outcomes.{refusal_of};
 ghost use Rattle.comparing.specs.Rooms.{is_too_many};
-ghost use Rattle.comparing.specs.Comparisons.{on, blamed_of};
+ghost use Rattle.comparing.specs.Comparisons.{on, side_of, blamed_of};
 
 use outcomes::Told;
 
 // The numbers of a row.
 pub const ROW_SIZE: usize = 5;
 
-// Which of the two tables a refusal is about.
-#[derive(Drop)]
+// One of the two tables.
+#[derive(Clone, Copy, Debug, PartialEq, Eq)]
 pub enum Side {
-    // The call as a whole.
-    Neither,
     Left,
     Right,
 }
 
-// A refusal with its side.
-#[derive(Drop)]
+// A refusal, and the table that it is about; none where it is about the call as a whole.
+#[derive(Clone, Copy, Debug, PartialEq, Eq)]
 pub struct Blame {
-    pub side: Side,
+    pub side: Option<Side>,
     pub told: Told,
 }
 
 impl Blame {
-    pub fn new(side: Side, told: Told) -> Blame
-        ensures { blamed_of result ≡ on side (refusal_of told) }
+    pub fn new(side: Option<Side>, told: Told) -> Blame
+        ensures { blamed_of result ≡ on (side_of side) (refusal_of told) }
     {
         Blame { side, told }
     }

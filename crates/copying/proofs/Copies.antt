@@ -1,4 +1,4 @@
--- Bytes copied block by block: after i of them the room holds the first i, whatever the blocks were.
+-- Bytes stored in a row: laws of `sets`.
 -- Assumes nothing.
 use Prim.Native.Nat.{ℕ, zero, suc, ◌+◌, ◌-◌, ◌≤◌, ◌<◌}
 use mathlib.Core.Path.{◌≡◌, refl, sym, ◌∙◌, ap}
@@ -6,7 +6,9 @@ use mathlib.Core.List.{List, [], ◌∷◌, ◌++◌}
 use native.Mathlib.Nat.{add-zero}
 use native.Mathlib.Omega.{arith}
 use lib.ListN.{length, take, drop, get_or, set, length-take, length-drop}
-use lib.Seq.{sets, length-sets, set_comm, drop-cons, drop-drop, take-add}
+use lib.Seq.{sets, sets-eq, set_comm, drop-cons, drop-drop, take-add, take_all}
+use borrow.Rule.Slice.PartMut.{put_mid}
+use Rattle.std.proofs.lemmas.Slice.{put_mid-paste}
 
 -- bytes after bytes
 pub sets_append : (room : List ℕ) (at : ℕ) (xs ys : List ℕ) {n : ℕ} → length xs ≡ n → sets room at (xs ++ ys) ≡ sets (sets room at xs) (at + n) ys
@@ -59,52 +61,23 @@ block room at s start k h =
     stored_are room at 0 (bytes_at s start 0 k)
     ∙ rw (add-zero at) (ap (sets room at) (bytes_are s start 0 k (omega arith) ∙ ap (λ (m : ℕ). take k (drop m s)) (add-zero start)))
 
--- ---- block after block
+-- ---- in two goes
 
-module _ (held : List ℕ) (at : ℕ) (pool : List ℕ) (start n : ℕ) where
-  -- after i bytes of n
-  pub record Copied (room : List ℕ) (i : ℕ) : Type 0 where
-    pub upto : i ≤ n
-    pub long : length room ≡ length held
-    pub holds : room ≡ sets held at (take i (drop start pool))
-
-  pub none_copied : Copied held 0
-  none_copied = record { upto = omega arith; long = refl; holds = refl }
-
-  -- k more
-  pub more_copied : start + n ≤ length pool → {room next : List ℕ} {i : ℕ} (k : ℕ) → i + k ≤ n → Copied room i
-      → next ≡ sets room (at + i) (take k (drop (start + i) pool)) → Copied next (i + k)
-  more_copied h {room} {next} {i} k l c e =
-      record {
-        upto = l;
-        long = ap length e ∙ length-sets room (at + i) (take k (drop (start + i) pool)) ∙ c.long;
-        holds =
-            e ∙ ap (λ (r : List ℕ). sets r (at + i) (take k (drop (start + i) pool))) c.holds
-            ∙ sym (sets_append held at (take i (drop start pool)) (take k (drop (start + i) pool)) first)
-            ∙ ap (sets held at) (ap (λ (r : List ℕ). take i (drop start pool) ++ take k r) (sym (drop-drop i start pool)) ∙ sym (take-add i k (drop start pool)));
-      }
-    where
-      first : length (take i (drop start pool)) ≡ i
-      first = simp (length-take, length-drop) (omega arith)
-
-  -- one more
-  pub one_copied : start + n ≤ length pool → {room : List ℕ} {i : ℕ} → i < n → Copied room i → Copied (set room (at + i) (get_or pool (start + i) 0)) (i + 1)
-  one_copied h {room} {i} l c =
-      let d : drop (start + i) pool ≡ get_or pool (start + i) 0 ∷ drop (suc (start + i)) pool = drop-cons pool (start + i) 0 (omega arith) in
-      more_copied h 1 (omega arith) c (ap (λ (r : List ℕ). sets room (at + i) (take 1 r)) (sym d))
-
-  pub all_copied : {room : List ℕ} {i : ℕ} → Copied room i → n ≤ i → room ≡ sets held at (take n (drop start pool))
-  all_copied {room} {i} c l = let z : i ≡ n = let u = c.upto in omega arith in c.holds ∙ ap (λ (m : ℕ). sets held at (take m (drop start pool))) z
-
-  -- all that is left
-  pub rest_copied : start + n ≤ length pool → {room next : List ℕ} {i : ℕ} → Copied room i
-      → next ≡ sets room (at + i) (take (n - i) (drop (start + i) pool)) → next ≡ sets held at (take n (drop start pool))
-  rest_copied h {room} {next} {i} c e = let u = c.upto in all_copied (more_copied h (n - i) (omega arith) c e) (omega arith)
-
--- in two goes
 pub both_copied : (held : List ℕ) (at : ℕ) (pool : List ℕ) (start n i k : ℕ) → start + n ≤ length pool → i + k ≡ n → (room next : List ℕ)
     → room ≡ sets held at (take i (drop start pool)) → next ≡ sets room (at + i) (take k (drop (start + i) pool)) → next ≡ sets held at (take n (drop start pool))
 both_copied held at pool start n i k h l room next a b =
-    let c : Copied held at pool start n room i =
-    record { upto = omega arith; long = ap length a ∙ length-sets held at (take i (drop start pool)); holds = a } in
-    all_copied held at pool start n (more_copied held at pool start n h k (omega arith) c b) (omega arith)
+    let text = drop start pool in
+    let first : length (take i (drop start pool)) ≡ i = simp (length-take, length-drop) (omega arith) in
+    b ∙ ap (λ (r : List ℕ). sets r (at + i) (take k (drop (start + i) pool))) a
+    ∙ sym (sets_append held at (take i text) (take k (drop (start + i) pool)) first)
+    ∙ ap (λ (r : List ℕ). sets held at (take i text ++ take k r)) (sym (drop-drop i start pool))
+    ∙ ap (sets held at) (sym (take-add i k text) ∙ ap (λ (m : ℕ). take m text) l)
+
+-- ---- a part that was lent and came back
+
+-- zs in the place of as many bytes
+pub put_sets : (room : List ℕ) (at n : ℕ) {ys : List ℕ} (zs : List ℕ) → at + n ≤ length room → length zs ≡ n → ys ≡ zs → put_mid at (at + n - at) room ys ≡ sets room at zs
+put_sets room at n {ys} zs h l e =
+    put_mid-paste at (at + n - at) room ys zs n e (omega arith) (sym l)
+    ∙ ap (λ (part : List ℕ). take at room ++ part ++ drop (at + n) room) (take_all n zs (omega arith))
+    ∙ rw (← l) (sym (sets-eq zs room at (omega arith)))

@@ -9,7 +9,9 @@ use native.Mathlib.Omega.{arith}
 use lib.Dec.{ltb}
 use Rattle.bigendian.specs.Numbers.{Bytes}
 use Rattle.outcomes.specs.Firsts.{when, ◌then◌}
-use Rattle.outcomes.specs.Outcomes.{Refusal, bare, refused, answered, unless, refusing}
+use Rattle.std.specs.Prelude.{Result, Ok, Err, IsErrAnd}
+use Rattle.choice.specs.Faces.{Face}
+use Rattle.outcomes.specs.Outcomes.{Refusal, Outcome, bare, refused, answered, unless, refusing}
 use Rattle.outcomes.proofs.Laws.{unless_answered}
 use Rattle.level.specs.Levels.{newest}
 use Rattle.os2_fields.specs.Fields.{version}
@@ -24,7 +26,9 @@ use Rattle.os2_answers.specs.Asking.{given, ask}
 use Rattle.os2_answers.proofs.Settling.{ask_above, ask_judged}
 use Rattle.name_search.specs.declared.Text.{Text}
 use Rattle.face.specs.Reading.{number_in, newer, os2_fault, face_of, family_of, unfit, named, face_in}
-use Rattle.face.specs.Replies.{face_at, style_of, Fits}
+use Rattle.face.specs.declared.FaceAt.{FaceAt}
+use Rattle.face.specs.declared.Refusal as face
+use Rattle.face.specs.Replies.{said_face_refusal, said_found, FoundFits, face_at, style_of, Fits}
 use Rattle.face.proofs.Answers.{figure, version_answer, version_says}
 use Rattle.face.proofs.Settling.{fit_exactly, family_inside}
 
@@ -50,6 +54,12 @@ module _ (L : ℕ) (b : List ℕ) where
   pub face_newness : L ≤ newest → Accepted L b → newer L b ≡ ltb L (version b)
   unfolding newer
   face_newness l a = ap (λ o. ltb L (number_in o)) (face_version l a)
+
+-- an error that is passed on is the answer, and has no text to fit
+pub passed_on : (n : List ℕ) (r : Result FaceAt face.Refusal) (e : face.Refusal) {o : Outcome Face} → IsErrAnd r (λ x. x ≡ e) → refusing (said_face_refusal e) ≡ o →
+    (said_found n r ≡ o) × FoundFits n r
+passed_on n (Ok x) e h d = absurd h
+passed_on n (Err x) e h d = (ap (λ y. refusing (said_face_refusal y)) h ∙ d, tt)
 
 module _ (L : ℕ) (b n : List ℕ) where
   pub face_refused : {k : ℕ} {c : Option ℕ} → ask L b (Field 0) ≡ refused k c → face_in L b n ≡ refused k c

@@ -1,7 +1,7 @@
--- The enums of the code in the papers' words and numbers, case by case.
-use Rattle.std.specs.Prelude.{ℕ, ◌+◌, ◌≤◌, List, eqb, length, take, drop}
+-- What the code answers in the papers' words and numbers, case by case.
+use Rattle.std.specs.Prelude.{ℕ, ◌+◌, ◌≤◌, List, eqb, length, take, drop, Option as Maybe, Result, Ok, Err}
 use Rattle.outcomes.specs.Outcomes as outcomes
-use Rattle.outcomes.specs.Outcomes.{bare, Outcome, answered, refusing}
+use Rattle.outcomes.specs.Outcomes.{bare, Outcome, answered, found_or, option_of, outcome_of}
 use Rattle.choice.specs.Faces.{Face}
 use Rattle.os2_acceptance.specs.Replies.{said_refusal}
 use Rattle.os2_rules.specs.Bits.{bit}
@@ -16,8 +16,6 @@ use Rattle.face.specs.Reading.{number_in}
 use Rattle.face.specs.declared.FaceAt.{FaceAt}
 use Rattle.face.specs.declared.Refusal.{Refusal}
 use Rattle.face.specs.declared.Refusal.TheVariants.{Os2, Newer, Name, Unfit}
-use Rattle.face.specs.declared.Found.{Found}
-use Rattle.face.specs.declared.Found.TheVariants as Found·
 
 -- a refusal's number, and what it carries
 abbrev pub said_face_refusal : Refusal → outcomes.Refusal
@@ -26,13 +24,16 @@ said_face_refusal Newer = bare 52
 said_face_refusal (Name r) = said_lookup_refusal r
 said_face_refusal Unfit = bare 51
 
+-- the record of an accepted table that is looked up, or 20
+abbrev pub said_record : Maybe Text → Outcome Text
+said_record r = found_or (bare 20) (option_of r) answered
+
 -- a face whose family stands in the table n
 abbrev pub face_at : List ℕ → FaceAt → Face
 face_at n x = record { family = take x.len (drop x.start n); weight = x.weight; width = x.width; sloped = x.sloped }
 
-abbrev pub said_found : List ℕ → Found → Outcome Face
-said_found n (Found·.Face x) = answered (face_at n x)
-said_found n (Found·.Refused r) = refusing (said_face_refusal r)
+abbrev pub said_found : List ℕ → Result FaceAt Refusal → Outcome Face
+said_found n r = outcome_of (face_at n) said_face_refusal r
 
 -- the face that the 'OS/2' table gives, with a text of the 'name' table
 abbrev pub style_of : ℕ → List ℕ → Text → FaceAt
@@ -60,6 +61,6 @@ pub record Fits (n : List ℕ) (x : FaceAt) : Type 0 where
   pub some : 1 ≤ x.len
   pub most : x.len ≤ 64
 
-abbrev pub FoundFits : List ℕ → Found → Type 0
-FoundFits n (Found·.Face x) = Fits n x
-FoundFits n (Found·.Refused r) = Unit {0}
+abbrev pub FoundFits : List ℕ → Result FaceAt Refusal → Type 0
+FoundFits n (Ok x) = Fits n x
+FoundFits n (Err r) = Unit {0}

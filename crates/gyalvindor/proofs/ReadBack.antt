@@ -54,8 +54,8 @@ use Rattle.face.specs.Reading.{refusal_in, os2_fault, family_key, or_else, famil
 use Rattle.chooser.specs.Calls.{before_tables, load_of, emptying, unload_of, done_of}
 use Rattle.chooser_words.specs.Words.{chosen_words}
 use Rattle.chooser_words.proofs.Words.{chosen_said, chosen_back}
-use Rattle.comparing.specs.declared.Side.{Side}
-use Rattle.comparing.specs.declared.Side.TheVariants.{Neither, Left, Right}
+use Rattle.comparing.specs.Comparisons.{Side}
+use Rattle.comparing.specs.Comparisons.{Neither, Left, Right}
 use Rattle.comparing.specs.Comparisons.{on, of, blame}
 use Rattle.name_compare.specs.Comparisons as names
 use Rattle.os2_compare.specs.Comparisons as fields

@@ -1,7 +1,7 @@
 // The readers, the comparison, the writers and the chooser for C and Rust: the functions that `gyalvindor_c` exports, each answering in plain numbers.
 // Document 01, whole, and document 02, Asks 1 to 8; `include/gyalvindor.h` says the same to a C programmer.
 // Relies on `name`, `name_lookup`, `name_strings` and `name_writer`, on `os2` and `os2_writer`, on `name_compare`, `os2_compare` and `chooser`, which answer, and on
-// `name_words`, `name_writer_words`, `os2_words`, `compare_words` and `chooser_words`, which put an answer into words of C.
+// `name_words`, `os2_words`, `compare_words` and `chooser_words`, which put an answer into words of C.
 #![tactic(auto)]
 
 ghost use Rattle.std.specs.Prelude.{◌≡◌, length};
@@ -27,26 +27,24 @@ ghost use Rattle.chooser.specs.Calls.{nobody, load_of, unload_of, after_load, af
 ghost use Rattle.chooser_words.specs.Words.{chosen_words, want_of};
 
 use chooser::Rack;
-use chooser_words::{GvChosen, GvLoaded, change_words, choice_words, want_of};
-use compare_words::{GvCompared, name_compared_words, os2_compared_words};
+use chooser_words::{GvChosen, GvLoaded, choice_words, want_of};
+use compare_words::{GvCompared, compared_words};
+use name_layout::Key;
 use name_store::Entry;
-use name_words::{
-    GvFound, GvText, GvVersion, found_words, named_words, verdict_words, version_words,
-};
-use name_writer_words::name_written_words;
+use name_words::{GvFound, GvText, GvVersion, found_words, named_words, version_words};
 use os2::Question;
 use os2_fields::FIELD_COUNT;
 use os2_words::{
-    GvNumber, GvOptical, GvRights, GvStyle, GvWritten, checked_words, number_words, optical_words,
-    rewritten_words, rights_words, style_words, written_words,
+    GvNumber, GvOptical, GvRights, GvStyle, GvWritten, number_words, optical_words, rights_words,
+    style_words, written_words,
 };
-use refusal_words::GvRefusal;
+use refusal_words::{GvRefusal, check_words};
 
 // Whether a 'name' table is accepted.
 pub fn gv_name_check(table: &[u8]) -> GvRefusal
     ensures { result ≡ outcome_refusal (check_of table.now) }
 {
-    verdict_words(name::check(table))
+    check_words(name::check(table))
 }
 
 // The string of the record of a 'name' table with these four numbers, the record's number, and how many records were looked at.
@@ -59,7 +57,13 @@ pub fn gv_name_lookup(
 ) -> GvFound
     ensures { result ≡ found_words (lookup_of table.now (key_from platform encoding language name)) (looked_of table.now (key_from platform encoding language name)) }
 {
-    found_words(name_lookup::lookup(table, platform, encoding, language, name))
+    let key = Key {
+        platform,
+        encoding,
+        language,
+        name,
+    };
+    found_words(name_lookup::lookup(table, key))
 }
 
 // The PostScript name of a 'name' table, and the number of the platform 1 record that has it.
@@ -80,14 +84,14 @@ pub fn gv_name_version(table: &[u8]) -> GvVersion
 pub fn gv_name_write(entries: &[Entry], pool: &[u8], room: &mut [u8]) -> GvWritten
     ensures { (result ≡ written_words (naming.write_of entries.now (length pool.now) (length room.old))) × (room.new ≡ naming.room_after entries.now pool.now room.old) }
 {
-    name_written_words(name_writer::write(entries, pool, room))
+    written_words(name_writer::write(entries, pool, room))
 }
 
 // Whether a level accepts an 'OS/2' table.
 pub fn gv_os2_check(table: &[u8], level: u32) -> GvRefusal
     ensures { result ≡ outcome_refusal (checked level table.now) }
 {
-    checked_words(os2::check(table, level))
+    check_words(os2::check(table, level))
 }
 
 // A field of an 'OS/2' table.
@@ -150,21 +154,21 @@ pub fn gv_os2_write(numbers: &[i64; FIELD_COUNT], room: &mut [u8]) -> GvWritten
 pub fn gv_os2_rewrite(table: &[u8], room: &mut [u8]) -> GvWritten
     ensures { (result ≡ written_words (rewritten table.now (length room.old))) × (room.new ≡ room_rewritten table.now room.old) }
 {
-    rewritten_words(os2_writer::rewrite(table, room))
+    written_words(os2_writer::rewrite(table, room))
 }
 
 // Lists what differs between two 'OS/2' tables at a level in lent rows.
 pub fn gv_os2_compare(left: &[u8], right: &[u8], level: u32, room: &mut [i64]) -> GvCompared
     ensures { (result ≡ compared_words (fields.compared_of level left.now right.now (length room.old))) × (room.new ≡ fields.room_of level left.now right.now room.old) }
 {
-    os2_compared_words(os2_compare::compare(left, right, level, room))
+    compared_words(os2_compare::compare(left, right, level, room))
 }
 
 // Lists what differs between two 'name' tables in lent rows.
 pub fn gv_name_compare(left: &[u8], right: &[u8], room: &mut [u16]) -> GvCompared
     ensures { (result ≡ compared_words (names.compared_of left.now right.now (length room.old))) × (room.new ≡ names.room_of left.now right.now room.old) }
 {
-    name_compared_words(name_compare::compare(left, right, room))
+    compared_words(name_compare::compare(left, right, room))
 }
 
 // A rack of empty slots.
@@ -180,12 +184,9 @@ pub fn gv_rack_load(rack: Rack, slot: u32, level: u32, os2: &[u8], name: &[u8]) 
         (held result.rack ≡ after_load (held rack) slot (load_of (held rack) slot level os2.now name.now)) }
 {
     let loaded = chooser::load(rack, slot, level, os2, name);
-    let answer = loaded.answer;
-    let refusal = change_words(answer);
-    let after = loaded.rack;
     GvLoaded {
-        refusal,
-        rack: after,
+        refusal: check_words(loaded.answer),
+        rack: loaded.rack,
     }
 }
 
@@ -194,12 +195,9 @@ pub fn gv_rack_unload(rack: Rack, slot: u32) -> GvLoaded
     ensures { (result.refusal ≡ outcome_refusal (unload_of (held rack) slot)) × (held result.rack ≡ after_unload (held rack) slot (unload_of (held rack) slot)) }
 {
     let loaded = chooser::unload(rack, slot);
-    let answer = loaded.answer;
-    let refusal = change_words(answer);
-    let after = loaded.rack;
     GvLoaded {
-        refusal,
-        rack: after,
+        refusal: check_words(loaded.answer),
+        rack: loaded.rack,
     }
 }
 

@@ -5,9 +5,9 @@
 
 ghost use Rattle.std.specs.Prelude.{◌≡◌};
 
-use level::{Level, LevelAnswer};
+use characters::Characters;
+use level::Level;
 use std::io;
-use version_text::Version;
 
 fn main(rt: HostRuntime) -> io::Result<()> {
     levels(&rt)?;
@@ -20,34 +20,26 @@ fn main(rt: HostRuntime) -> io::Result<()> {
 
 // A row for each of some numbers.
 fn levels(rt: &impl Print) -> io::Result<()> {
-    level_row(rt, 0)?;
-    level_row(rt, 1)?;
-    level_row(rt, 2)?;
-    level_row(rt, 3)?;
-    level_row(rt, 4)?;
-    level_row(rt, 5)?;
-    level_row(rt, 6)?;
-    level_row(rt, 4294967295)
+    for number in [0, 1, 2, 3, 4, 5, 6, u32::MAX] {
+        level_row(rt, number)?;
+    }
+    Ok(())
 }
 
 // The number, and the bytes of the level's table or the refusal's number.
 fn level_row(rt: &impl Print, number: u32) -> io::Result<()> {
-    match Level::new(number) {
-        LevelAnswer::Known(known) => println!(rt; "{number} table size {}", known.table_size()),
-        LevelAnswer::Refused => println!(rt; "{number} refused 1"),
+    match Level::try_from(number) {
+        Ok(known) => println!(rt; "{number} table size {}", known.table_size()),
+        Err(_) => println!(rt; "{number} refused 1"),
     }
 }
 
-// A row for each line of the input.
+// A row for each line of the input, which a newline ends.
 fn rows(rt: &impl Print, lines: &[u8]) -> io::Result<()> {
-    let mut start = 0;
-    let mut at = 0;
-    while at < lines.len() {
-        if lines[at] == b'\n' {
-            text_row(rt, &lines[start..at])?;
-            start = at + 1;
+    for line in lines.split_inclusive(|byte| *byte == b'\n') {
+        if let Some(text) = line.strip_suffix(b"\n") {
+            text_row(rt, text)?;
         }
-        at += 1;
     }
     Ok(())
 }
@@ -55,20 +47,23 @@ fn rows(rt: &impl Print, lines: &[u8]) -> io::Result<()> {
 // A text as long as a record allows: one digit group.
 fn long_row(rt: &impl Print) -> io::Result<()> {
     let sevens = [b'7'; 65535];
-    row(rt, b"65,535 sevens", &sevens)
+    print!(rt; "65,535 sevens")?;
+    version_row(rt, &sevens)
 }
 
+// The text, and its version.
 fn text_row(rt: &impl Print, text: &[u8]) -> io::Result<()> {
-    rt.write_all(b"`")?;
+    print!(rt; "`")?;
     rt.write_all(text)?;
-    row(rt, b"`", text)
+    print!(rt; "`")?;
+    version_row(rt, text)
 }
 
-fn row(rt: &impl Print, label: &[u8], text: &[u8]) -> io::Result<()> {
-    rt.write_all(label)?;
-    match version_text::version_of(text, false) {
-        Version::Number { major, minor } => println!(rt; " version {major} {minor}"),
-        Version::NoNumber => println!(rt; " version refused 25"),
+// What stands in a row behind its text.
+fn version_row(rt: &impl Print, text: &[u8]) -> io::Result<()> {
+    match version_text::version_of(Characters { text, wide: false }) {
+        Some(found) => println!(rt; " version {} {}", found.major, found.minor),
+        None => println!(rt; " version refused 25"),
     }
 }
 
@@ -79,21 +74,20 @@ fn characters_allowed(rt: &impl Print) -> io::Result<()> {
 }
 
 fn write_allowed(rt: &impl Print) -> io::Result<()> {
-    for code in 0u32..256 {
-        let byte = code as u8;
-        if charset::is_allowed(byte) {
-            rt.write_all(&[byte])?;
+    for code in 0..=u8::MAX {
+        if charset::is_allowed(code) {
+            rt.write_all(&[code])?;
         }
     }
     Ok(())
 }
 
-fn count_allowed() -> u64
+fn count_allowed() -> usize
     ensures { result ≡ 84 }
 {
     let mut count = 0;
-    for code in 0u32..256 {
-        if charset::is_allowed(code as u8) {
+    for code in 0..=u8::MAX {
+        if charset::is_allowed(code) {
             count += 1;
         }
     }

@@ -15,7 +15,8 @@ use Rattle.level.specs.Levels.{newest, number_of, levels, level_of, said}
 use Rattle.level.specs.Sizes.{table_size}
 use Rattle.level.specs.declared.Level.{Level}
 use Rattle.level.specs.declared.Level.TheVariants.{Oldest, One, Two, Three, Four, Newest}
-use Rattle.level.specs.declared.LevelAnswer.TheVariants.{Known, Refused}
+use Rattle.level.specs.declared.LevelAbove.{LevelAbove}
+use Rattle.std.specs.Prelude.{Result, Ok, Err}
 
 -- ---- the levels
 
@@ -42,28 +43,28 @@ pub says : (n : ℕ) → said (level_of n) ≡ unless (when (ltb newest n) (bare
 unfolding level_of when unless
 says n = go (ltb newest n) refl
   where
-    go : (t : Bool) → ltb newest n ≡ t → said (cond t Refused (Known (get_or levels n Newest))) ≡ unless (when t (bare 1)) (answered n)
+    go : (t : Bool) → ltb newest n ≡ t → said (cond {A = Result Level LevelAbove} t (Err record {}) (Ok (get_or levels n Newest))) ≡ unless (when t (bare 1)) (answered n)
     go true e = refl
     go false e = ap answered (named n (ltb-false newest n e))
 
-pub known : (n : ℕ) (l : Level) → level_of n ≡ Known l → (n ≤ 5) × (number_of l ≡ n)
+pub known : (n : ℕ) (l : Level) → level_of n ≡ Ok l → (n ≤ 5) × (number_of l ≡ n)
 unfolding level_of
 known n l = go (ltb 5 n) refl
   where
-    go : (t : Bool) → ltb 5 n ≡ t → cond t Refused (Known (get_or levels n Newest)) ≡ Known l → (n ≤ 5) × (number_of l ≡ n)
+    go : (t : Bool) → ltb 5 n ≡ t → cond {A = Result Level LevelAbove} t (Err record {}) (Ok (get_or levels n Newest)) ≡ Ok l → (n ≤ 5) × (number_of l ≡ n)
     go true e d = let z : ◌≡◌ {A = ℕ} 0 1 = cc in absurd (omega arith)
     go false e d = let g : get_or levels n Newest ≡ l = cc in (ltb-false 5 n e, sym (ap number_of g) ∙ named n (ltb-false 5 n e))
 
-pub refused : (n : ℕ) → level_of n ≡ Refused → 5 < n
+pub refused : (n : ℕ) (r : LevelAbove) → level_of n ≡ Err r → 5 < n
 unfolding level_of
-refused n = go (ltb 5 n) refl
+refused n r = go (ltb 5 n) refl
   where
-    go : (t : Bool) → ltb 5 n ≡ t → cond t Refused (Known (get_or levels n Newest)) ≡ Refused → 5 < n
+    go : (t : Bool) → ltb 5 n ≡ t → cond {A = Result Level LevelAbove} t (Err record {}) (Ok (get_or levels n Newest)) ≡ Err r → 5 < n
     go true e d = ltb-true 5 n e
     go false e d = let z : ◌≡◌ {A = ℕ} 0 1 = cc in absurd (omega arith)
 
 -- 0, 5, 6 and the largest number
-pub at_ends : map level_of (0 ∷ 5 ∷ 6 ∷ 4294967295 ∷ []) ≡ Known Oldest ∷ Known Newest ∷ Refused ∷ Refused ∷ []
+pub at_ends : map level_of (0 ∷ 5 ∷ 6 ∷ 4294967295 ∷ []) ≡ Ok Oldest ∷ Ok Newest ∷ Err record {} ∷ Err record {} ∷ []
 unfolding level_of
 at_ends = refl
 

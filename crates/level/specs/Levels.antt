@@ -1,11 +1,9 @@
 -- Document 01, "Levels", and refusal 1.
-use Rattle.std.specs.Prelude.{ℕ, cond, List, [], ◌∷◌, get_or, ltb}
-use Rattle.std.proofs.Math.Option.{none}
-use Rattle.outcomes.specs.Outcomes.{Outcome, refused, answered}
+use Rattle.std.specs.Prelude.{ℕ, cond, List, [], ◌∷◌, get_or, ltb, Result, Ok, Err}
+use Rattle.outcomes.specs.Outcomes.{Refusal, bare, Outcome, outcome_of}
 use Rattle.level.specs.declared.Level.{Level}
 use Rattle.level.specs.declared.Level.TheVariants.{Oldest, One, Two, Three, Four, Newest}
-use Rattle.level.specs.declared.LevelAnswer.{LevelAnswer}
-use Rattle.level.specs.declared.LevelAnswer.TheVariants.{Known, Refused}
+use Rattle.level.specs.declared.LevelAbove.{LevelAbove}
 
 -- the newest level, and the highest version that there is
 abbrev pub newest : ℕ
@@ -25,10 +23,12 @@ abbrev pub levels : List Level
 levels = Oldest ∷ One ∷ Two ∷ Three ∷ Four ∷ Newest ∷ []
 
 -- "only a checked number becomes a level": refused above 5
-unfoldable pub level_of : ℕ → LevelAnswer
-level_of n = cond (ltb newest n) Refused (Known (get_or levels n Newest))
+unfoldable pub level_of : ℕ → Result Level LevelAbove
+level_of n = cond (ltb newest n) (Err record {}) (Ok (get_or levels n Newest))
 
--- an answer in document 01's numbers: the level's, or the refusal's
-abbrev pub said : LevelAnswer → Outcome ℕ
-said (Known l) = answered (number_of l)
-said Refused = refused 1 none
+-- the code's refusal and answer in document 01's numbers
+abbrev pub said_above : LevelAbove → Refusal
+said_above r = bare 1
+
+abbrev pub said : Result Level LevelAbove → Outcome ℕ
+said r = outcome_of number_of said_above r

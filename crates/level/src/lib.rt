@@ -5,10 +5,11 @@
 ghost use Rattle.std.specs.Prelude.{◌≡◌};
 ghost use Rattle.level.specs.Levels.{number_of, level_of};
 ghost use Rattle.level.specs.Sizes.{table_size};
-ghost use Rattle.level.specs.Words.{level_in, said_word};
+ghost use Rattle.outcomes.specs.Outcomes.{option_of};
+ghost use Rattle.level.specs.Words.{level_in};
 
 // A level, document 01's term. There are these six and no others.
-#[derive(Clone, Copy)]
+#[derive(Clone, Copy, Debug, PartialEq, Eq)]
 pub enum Level {
     // 0
     Oldest,
@@ -24,59 +25,43 @@ pub enum Level {
     Newest,
 }
 
-// What a number is as a level.
-#[derive(Drop)]
-pub enum LevelAnswer {
-    // The level of that number.
-    Known(Level),
-    // Refusal 1: the number is above 5.
-    Refused,
-}
+// Refusal 1: a number above 5 is no level.
+#[derive(Clone, Copy, Debug, PartialEq, Eq)]
+pub struct LevelAbove;
 
-// What a word says as a level.
-#[derive(Drop)]
-pub enum LevelWord {
-    // The number that its digits read as, or 6 for any above 5: no reader has such a level, whichever it is.
-    Number(u32),
-    // The word is empty, or a character of it is no digit: it gives no number.
-    NoNumber,
-}
-
-// What `Number` holds for every number above 5.
+// What a word gives as a level for every number above 5: no reader has such a level, whichever it is.
 const ABOVE_NEWEST: u32 = 6;
 
-impl Level {
-    pub const OLDEST: Level = Level::Oldest;
+// The level of a number: the only way from a number to a level.
+impl TryFrom<u32> for Level {
+    type Error = LevelAbove;
 
-    pub const NEWEST: Level = Level::Newest;
+    ghost try_from_gives = { λ number r. r ≡ level_of number };
 
-    // The level of a number: the only way from a number to a level.
-    pub fn new(number: u32) -> LevelAnswer
-        ensures { result ≡ level_of number }
-    {
+    fn try_from(number: u32) -> Result<Level, LevelAbove> {
         match number {
-            0 => LevelAnswer::Known(Level::OLDEST),
-            1 => LevelAnswer::Known(Level::One),
-            2 => LevelAnswer::Known(Level::Two),
-            3 => LevelAnswer::Known(Level::Three),
-            4 => LevelAnswer::Known(Level::Four),
-            5 => LevelAnswer::Known(Level::NEWEST),
-            _ => LevelAnswer::Refused,
+            0 => Ok(Level::OLDEST),
+            1 => Ok(Level::One),
+            2 => Ok(Level::Two),
+            3 => Ok(Level::Three),
+            4 => Ok(Level::Four),
+            5 => Ok(Level::NEWEST),
+            _ => Err(LevelAbove),
         }
     }
+}
+
+impl Level {
+    // Level 0.
+    pub const OLDEST: Level = Level::Oldest;
+    // Level 5.
+    pub const NEWEST: Level = Level::Newest;
 
     // The level's number, 0 to 5.
     pub fn number(self) -> u32
         ensures { result ≡ number_of self }
     {
-        match self {
-            Level::Oldest => 0,
-            Level::One => 1,
-            Level::Two => 2,
-            Level::Three => 3,
-            Level::Four => 4,
-            Level::Newest => 5,
-        }
+        self as u32
     }
 
     // The bytes of a table of the highest version that the level knows.
@@ -103,22 +88,20 @@ pub fn version_size(version: u32) -> usize
     100
 }
 
-// The level that a word of decimal digits gives, however long it is.
-pub fn level_in(word: &[u8]) -> LevelWord
-    ensures { said_word result ≡ level_in word.now }
+// The number that a word of decimal digits reads as, however long it is, or 6 for any above 5; none where it is empty or a character of it is no digit.
+pub fn level_in(word: &[u8]) -> Option<u32>
+    ensures { option_of result ≡ level_in word.now }
 {
-    if word.len() == 0 {
-        return LevelWord::NoNumber;
+    if word.is_empty() {
+        return None;
     }
     let mut n = 0;
-    let mut i = 0;
-    while i < word.len() {
-        let c = word[i] as u16;
-        if !characters::is_digit(c) {
-            return LevelWord::NoNumber;
+    for &byte in word {
+        let code = u16::from(byte);
+        if !characters::is_digit(code) {
+            return None;
         }
-        n = characters::with_digit(n, c, ABOVE_NEWEST);
-        i += 1;
+        n = characters::with_digit(n, code, ABOVE_NEWEST);
     }
-    LevelWord::Number(n)
+    Some(n)
 }

@@ -1,3 +1,3 @@
-pub mod Pieces
+pub mod Digits
 pub mod Reading
 pub mod Limits

@@ -1,15 +1,14 @@
 -- Document 01, end of "Examples to check against": the lines that any listing may have, each as its bytes.
-use Rattle.std.specs.Prelude.{ℕ, cond, List, ◌++◌, ltb, length, take}
+use Rattle.std.specs.Prelude.{ℕ, ◌+◌, cond, List, ◌++◌, ltb, length}
 use Prim.Native.String.{String}
 use Rattle.std.proofs.Math.Option.{Option, none, some}
 use Rattle.characters.specs.Texts.{codes}
 use Rattle.outcomes.specs.Outcomes.{Refusal}
-use Rattle.lines.specs.Numerals.{decimal}
-use Rattle.lines.specs.declared.Line.{Line}
+use Rattle.lines.specs.Numerals.{most_digits, decimal}
 
--- the bytes of a line
-abbrev pub line_of : Line → List ℕ
-line_of l = take l.len l.bytes
+-- the bytes that a line has room for
+abbrev pub line_room : ℕ
+line_room = 160
 
 -- a text and a number behind it
 abbrev pub numbered : String → ℕ → List ℕ
@@ -19,6 +18,10 @@ numbered text n = codes text ++ decimal n
 abbrev pub refused_line : ℕ → Option ℕ → List ℕ
 refused_line n (some k) = numbered "refused " n ++ numbered " at " k ++ codes "\n"
 refused_line n none = numbered "refused " n ++ codes "\n"
+
+-- the most bytes of such a line
+abbrev pub refusal_room : ℕ
+refusal_room = 8 + most_digits + (4 + most_digits) + 1
 
 -- the line of a refusal
 abbrev pub refusal_line : Refusal → List ℕ

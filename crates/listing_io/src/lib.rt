@@ -1,12 +1,11 @@
-// What the programs share: a table read from a file or from standard input, and lines collected in a buffer and written.
-// No contract can say what a call of the operating system reads or writes: what is read has a bound, and where the next line goes is said.
+// What the programs share: how many arguments there are, a table read from a file or from standard input, and lines collected in a page and written.
+// No contract can say what a call of the operating system reads or writes: what is read has a bound, and what a page holds is said.
 #![tactic(auto)]
 
-ghost use Rattle.std.specs.Prelude.{◌+◌, ◌≤◌, length, ◌≡◌, IfSome};
-ghost use Rattle.lines.specs.Pieces.{line_room};
-ghost use Rattle.listing_io.specs.Inputs.{Within, behind};
+ghost use Rattle.std.specs.Prelude.{◌≤◌, length, ◌≡◌, [], ◌++◌, IfSome, IfOk};
+ghost use Rattle.listing_io.specs.Pages.{waiting};
 
-use lines::{LINE_ROOM, Line, append};
+use lines::{Buffer, LINE_ROOM, Line};
 use std::env::FillError;
 use std::io::{ErrorKind, Read};
 use std::rt::Env;
@@ -18,29 +17,35 @@ const EINVAL: i32 = 22;
 // Linux's number of "File name too long".
 const ENAMETOOLONG: i32 = 36;
 
-// What was read.
-#[derive(Drop)]
-pub enum Input {
-    // All of it: so many bytes.
-    Table(usize),
-    // More than the room has.
+// Why no table was read.
+#[derive(Clone, Copy, Debug, PartialEq, Eq)]
+pub enum NoTable {
+    // There is more than the room has.
     TooLong,
     // It could not be opened or read; a message on standard error says why.
     Unread,
 }
 
-// Reads the file that argument i names, or standard input where there are fewer arguments.
-pub fn read_table(rt: &HostRuntime, i: usize, room: &mut [u8]) -> Input
-    ensures { Within result (length room.new) }
+// How many arguments there are, the program's name among them.
+// No clause can say more than the type: std's contract of `arg` bounds what it writes, and says nothing of which arguments there are.
+pub fn argument_count(rt: &impl Env) -> usize {
+    for i in 0..usize::MAX {
+        if let Err(FillError::NotPresent) = rt.arg(i, &mut []) {
+            return i;
+        }
+    }
+    usize::MAX
+}
+
+// Reads the file that argument i names, or standard input where there are fewer arguments, and answers how many bytes it has.
+pub fn read_table(rt: &HostRuntime, i: usize, room: &mut [u8]) -> Result<usize, NoTable>
+    ensures { IfOk result (λ n. n ≤ length room.new) }
 {
     let mut path = [0u8; 4096];
     match rt.arg(i, &mut path) {
         Ok(n) => read_file(rt, &path[..n], room),
         Err(FillError::NotPresent) => read_from(rt, &mut rt.stdin(), b"standard input", room),
-        Err(why) => {
-            fail(rt, b"path", unfilled(why));
-            Input::Unread
-        }
+        Err(why) => Err(unread(rt, b"path", unfilled(why))),
     }
 }
 
@@ -66,51 +71,46 @@ fn unfilled(why: FillError) -> io::Error {
 }
 
 // Reads the file of a path. std opens only paths that are UTF-8.
-fn read_file(rt: &HostRuntime, path: &[u8], room: &mut [u8]) -> Input
-    ensures { Within result (length room.new) }
+fn read_file(rt: &HostRuntime, path: &[u8], room: &mut [u8]) -> Result<usize, NoTable>
+    ensures { IfOk result (λ n. n ≤ length room.new) }
 {
     let Ok(name) = str::from_utf8(path) else {
-        fail(
-            rt,
-            path,
-            io::Error::new(ErrorKind::InvalidFilename, "not UTF-8"),
-        );
-        return Input::Unread;
+        let why = io::Error::new(ErrorKind::InvalidFilename, "not UTF-8");
+        return Err(unread(rt, path, why));
     };
     match fs::open(rt, name) {
         Ok(mut file) => read_from(rt, &mut file, path, room),
-        Err(why) => {
-            fail(rt, path, why);
-            Input::Unread
-        }
+        Err(why) => Err(unread(rt, path, why)),
     }
 }
 
 // Fills the room, in as many pieces as come, and then reads once more. That read gives nothing where the input has ended, a byte where it is too
 // long, and fails where it cannot be read.
-fn read_from<F: Read>(rt: &HostRuntime, file: &mut F, path: &[u8], room: &mut [u8]) -> Input
-    ensures { Within result (length room.new) }
+fn read_from<F: Read>(
+    rt: &HostRuntime,
+    file: &mut F,
+    path: &[u8],
+    room: &mut [u8],
+) -> Result<usize, NoTable>
+    ensures { IfOk result (λ n. n ≤ length room.new) }
 {
     let n = read_full(file, room);
     let mut more = [0u8; 1];
     match file.read(&mut more) {
-        Err(why) => {
-            fail(rt, path, why);
-            Input::Unread
-        }
-        Ok(0) => Input::Table(n),
+        Err(why) => Err(unread(rt, path, why)),
+        Ok(0) => Ok(n),
         Ok(_) => {
             if n < room.len() {
                 say(rt, path);
                 say(rt, b": reading was interrupted\n");
-                return Input::Unread;
+                return Err(NoTable::Unread);
             }
-            Input::TooLong
+            Err(NoTable::TooLong)
         }
     }
 }
 
-// Reads until the room is full, the input ends or a read fails, and answers how many bytes it put at the room's start.
+// Reads until the room is full, the input ends or a read fails, and answers how many bytes it put at the room's start. How many a read gives, it says itself.
 pub fn read_full<F: Read>(file: &mut F, room: &mut [u8]) -> usize
     ensures { result ≤ length room.new }
 {
@@ -125,23 +125,47 @@ pub fn read_full<F: Read>(file: &mut F, room: &mut [u8]) -> usize
     done
 }
 
-// Where the next line goes: behind what stands already, or at the start, once that is written out for want of room.
-pub fn room_behind(rt: &HostRuntime, out: &[u8], end: usize) -> usize
-    requires { (line_room ≤ length out.now) × (end ≤ length out.now) }
-    ensures { (result + line_room ≤ length out.now) × (result ≡ behind (length out.now) end) }
-{
-    if out.len() - end < LINE_ROOM {
-        write(rt, &out[..end]);
-        return 0;
+// The bytes that a page has room for.
+const PAGE_ROOM: usize = 4096;
+
+// Lines that wait to be written.
+#[derive(Drop)]
+pub struct Page {
+    lines: Buffer<PAGE_ROOM>,
+}
+
+impl Page {
+    // One with no lines yet.
+    pub fn new() -> Page
+        ensures { result.lines ≡ [] }
+    {
+        Page {
+            lines: Buffer::new(),
+        }
     }
-    end
+
+    // Puts a line behind those that wait, once they are written out for want of room.
+    #[tactic(auto, unfolding(crate::specs::Pages::waiting))]
+    pub fn put(&mut self, rt: &HostRuntime, line: Line)
+        ensures { self.new.lines ≡ waiting self.old.lines ++ line }
+    {
+        if PAGE_ROOM - self.lines.as_bytes().len() < LINE_ROOM {
+            self.write(rt);
+            self.lines.clear();
+        }
+        self.lines.put(line.as_bytes());
+    }
+
+    // Writes the lines that wait.
+    // No clause: it answers nothing and changes nothing that a clause sees, and of what the system writes no contract says anything.
+    pub fn write(&self, rt: &HostRuntime) {
+        write(rt, self.lines.as_bytes());
+    }
 }
 
 // Writes one line.
 pub fn write_line(rt: &HostRuntime, line: Line) {
-    let mut out = [0u8; 4096];
-    let end = append(&mut out, 0, line);
-    write(rt, &out[..end]);
+    write(rt, line.as_bytes());
 }
 
 // Writes, or says why it cannot.
@@ -149,6 +173,12 @@ pub fn write(rt: &HostRuntime, bytes: &[u8]) {
     if let Err(why) = rt.write_all(bytes) {
         fail(rt, b"standard output", why);
     }
+}
+
+// Says on standard error what could not be read, and why.
+fn unread(rt: &HostRuntime, what: &[u8], why: io::Error) -> NoTable {
+    fail(rt, what, why);
+    NoTable::Unread
 }
 
 // Says on standard error what failed, and why.

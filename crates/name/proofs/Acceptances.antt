@@ -21,8 +21,7 @@ use Rattle.name_tests.specs.Tests.{is_language_refused}
 use Rattle.name_tests.specs.Steps.{Framed}
 use Rattle.name_tests.proofs.Tests.{long, format_known, records_within, tags_within, storage_placed, Held, string_held, string_fits, Rises, above, language_below}
 use Rattle.name.specs.declared.Refusal as code
-use Rattle.name.specs.declared.Verdict.{Verdict}
-use Rattle.name.specs.declared.Verdict.TheVariants.{Accepted, Refused}
+use Rattle.std.specs.Prelude.{Result, Ok, Err}
 use Rattle.name.specs.Refusals.{said_refusal, said_check}
 use Rattle.name.specs.Acceptance.{layout_fault, record_fault, tag_fault, faults, check_of}
 use Rattle.name.specs.Refusing.{Laid}
@@ -133,12 +132,12 @@ module _ (t : List ℕ) where
 
   -- ---- what the code's verdict says
 
-  module _ {v : Verdict} (said : said_check v ≡ check_of t) where
-    pub accepted_none : v ≡ Accepted → faults t ≡ none
+  module _ {v : Result (Unit {0}) code.Refusal} (said : said_check v ≡ check_of t) where
+    pub accepted_none : {u : Unit {0}} → v ≡ Ok u → faults t ≡ none
     unfolding unless
     accepted_none e = ((unless_answered (faults t) accepted tt).0 (sym said ∙ ap said_check e)).0
 
-    pub refused_some : {r : code.Refusal} → v ≡ Refused r → faults t ≡ some (said_refusal r)
+    pub refused_some : {r : code.Refusal} → v ≡ Err r → faults t ≡ some (said_refusal r)
     unfolding unless
     refused_some e = (unless_refused (faults t) tt _ _).0 (sym said ∙ ap said_check e)
 

@@ -1,12 +1,11 @@
 -- Document 01, "Numbers given for a refusal", 10 to 18, and document 02, Ask 3, 19 and 27: what each case of the code says.
-use Rattle.std.proofs.Math.Option.{Option, none, some}
+use Rattle.std.specs.Prelude.{Result}
+use Rattle.std.proofs.Math.Option.{Option}
 use Rattle.outcomes.specs.Outcomes as outcomes
-use Rattle.outcomes.specs.Outcomes.{Outcome, bare, carrying, accepted, unless}
+use Rattle.outcomes.specs.Outcomes.{Outcome, bare, carrying, accepted, unless, error_of}
 use Rattle.name.specs.declared.Refusal.{Refusal}
 use Rattle.name.specs.declared.Refusal.TheVariants.{TooShort, UnknownFormat, RecordsPastEnd, TagsPastEnd, StorageMisplaced}
 use Rattle.name.specs.declared.Refusal.TheVariants.{StringBeyond, TagString, KeyBelow, LanguageRefused, KeyEqual, StringRunsOver}
-use Rattle.name.specs.declared.Verdict.{Verdict}
-use Rattle.name.specs.declared.Verdict.TheVariants.{Accepted, Refused}
 
 -- "No." and "Carries"
 abbrev pub said_refusal : Refusal → outcomes.Refusal
@@ -22,10 +21,9 @@ said_refusal (LanguageRefused i) = carrying 18 i
 said_refusal (KeyEqual i) = carrying 19 i
 said_refusal (StringRunsOver i) = carrying 27 i
 
--- the refusal of a verdict, and the verdict as an outcome
-abbrev pub said_fault : Verdict → Option outcomes.Refusal
-said_fault Accepted = none
-said_fault (Refused r) = some (said_refusal r)
+-- the refusal that a check of the code finds, and what the check says as an outcome
+abbrev pub said_fault : Result (Unit {0}) Refusal → Option outcomes.Refusal
+said_fault r = error_of said_refusal r
 
-abbrev pub said_check : Verdict → Outcome (Unit {0})
-said_check v = unless (said_fault v) accepted
+abbrev pub said_check : Result (Unit {0}) Refusal → Outcome (Unit {0})
+said_check r = unless (said_fault r) accepted

@@ -7,20 +7,20 @@ ghost use Rattle.std.specs.Prelude.{◌≡◌, true, false, ◌+◌, ◌/◌, �
 ghost use Rattle.std.proofs.Math.Option.{none};
 ghost use Rattle.outcomes.specs.Firsts.{first_among};
 ghost use Rattle.outcomes.specs.Outcomes.{refusal_of};
+ghost use Rattle.bigendian.specs.Numbers.{Bytes};
 ghost use Rattle.name_layout.specs.Layout.{count, tag_count};
-ghost use Rattle.name_tests.specs.Steps.{Framed};
 ghost use Rattle.name.specs.Refusals.{said_refusal, said_fault, said_check};
-ghost use Rattle.name.specs.Acceptance.{layout_fault, record_fault, tag_fault, check_of};
+ghost use Rattle.name.specs.Acceptance.{faults, layout_fault, record_fault, tag_fault, check_of};
 
-use name_layout::{key_at, record_count, storage_start, tag_count};
+use name_layout::{RecordAt, Table};
 use name_tests::{
-    equals_before, language_refused, not_above, other_format, records_pass, starts_beyond,
+    Framed, equals_before, language_refused, not_above, other_format, records_pass, starts_beyond,
     storage_misplaced, string_passes, tags_pass, too_short,
 };
-use outcomes::{Carried, Told};
+use outcomes::Told;
 
 // Why a table is refused, with the record or the tag that is at fault.
-#[derive(Clone, Copy)]
+#[derive(Clone, Copy, Debug, PartialEq, Eq)]
 pub enum Refusal {
     // 10: the table is under 6 bytes.
     TooShort,
@@ -46,145 +46,119 @@ pub enum Refusal {
     StringRunsOver(usize),
 }
 
-// What the check of a table says.
-#[derive(Drop)]
-pub enum Verdict {
-    Accepted,
-    Refused(Refusal),
+// Document 01's number, and what it carries.
+impl From<Refusal> for Told {
+    ghost from_gives = { λ why told. refusal_of told ≡ said_refusal why };
+
+    fn from(why: Refusal) -> Told {
+        match why {
+            Refusal::TooShort => Told::bare(10),
+            Refusal::UnknownFormat => Told::bare(11),
+            Refusal::RecordsPastEnd => Told::bare(12),
+            Refusal::TagsPastEnd => Told::bare(13),
+            Refusal::StorageMisplaced => Told::bare(14),
+            Refusal::StringBeyond(i) => Told::carrying(15, i),
+            Refusal::TagString(i) => Told::carrying(16, i),
+            Refusal::KeyBelow(i) => Told::carrying(17, i),
+            Refusal::LanguageRefused(i) => Told::carrying(18, i),
+            Refusal::KeyEqual(i) => Told::carrying(19, i),
+            Refusal::StringRunsOver(i) => Told::carrying(27, i),
+        }
+    }
 }
 
-impl Refusal {
-    // Document 01's number, and what it carries.
-    pub fn told(self) -> Told
-        ensures { refusal_of result ≡ said_refusal self }
+// A table that the check accepts: whoever makes one shows that no refusal meets it.
+#[derive(Clone, Copy)]
+pub struct Accepted<'a> {
+    pub bytes: &'a [u8],
+    ghost each: { Bytes bytes.now },
+    ghost accepted: { faults bytes.now ≡ none },
+}
+
+impl Accepted<'_> {
+    // The number of its name records.
+    pub fn record_count(&self) -> u16
+        ensures { result ≡ count self.now.bytes.now }
     {
-        match self {
-            Refusal::TooShort => Told {
-                number: 10,
-                carried: Carried::Nothing,
-            },
-            Refusal::UnknownFormat => Told {
-                number: 11,
-                carried: Carried::Nothing,
-            },
-            Refusal::RecordsPastEnd => Told {
-                number: 12,
-                carried: Carried::Nothing,
-            },
-            Refusal::TagsPastEnd => Told {
-                number: 13,
-                carried: Carried::Nothing,
-            },
-            Refusal::StorageMisplaced => Told {
-                number: 14,
-                carried: Carried::Nothing,
-            },
-            Refusal::StringBeyond(i) => Told {
-                number: 15,
-                carried: Carried::This(i),
-            },
-            Refusal::TagString(i) => Told {
-                number: 16,
-                carried: Carried::This(i),
-            },
-            Refusal::KeyBelow(i) => Told {
-                number: 17,
-                carried: Carried::This(i),
-            },
-            Refusal::LanguageRefused(i) => Told {
-                number: 18,
-                carried: Carried::This(i),
-            },
-            Refusal::KeyEqual(i) => Told {
-                number: 19,
-                carried: Carried::This(i),
-            },
-            Refusal::StringRunsOver(i) => Told {
-                number: 27,
-                carried: Carried::This(i),
-            },
-        }
+        let table = Table { bytes: self.bytes };
+        table.record_count()
     }
 }
 
 // Whether a table is accepted, or its first refusal.
-pub fn check(table: &[u8]) -> Verdict
+pub fn check(table: &[u8]) -> Result<(), Refusal>
     ensures { said_check result ≡ check_of table.now }
 {
-    if let Verdict::Refused(r) = layout_fault(table) {
-        return Verdict::Refused(r);
-    }
-    if let Verdict::Refused(r) = record_faults(table) {
-        return Verdict::Refused(r);
-    }
-    tag_faults(table)
+    layout_fault(table)?;
+    let framed = Framed {
+        table: Table { bytes: table },
+    };
+    record_faults(&framed)?;
+    tag_faults(&framed)
 }
 
 // The first fault of the layout: 10, 11, 12, 13, 14.
-fn layout_fault(table: &[u8]) -> Verdict
+fn layout_fault(table: &[u8]) -> Result<(), Refusal>
     ensures { said_fault result ≡ layout_fault table.now }
 {
     if too_short(table) {
-        return Verdict::Refused(Refusal::TooShort);
+        return Err(Refusal::TooShort);
     }
-    if other_format(table) {
-        return Verdict::Refused(Refusal::UnknownFormat);
+    let table = Table { bytes: table };
+    if other_format(&table) {
+        return Err(Refusal::UnknownFormat);
     }
-    if records_pass(table) {
-        return Verdict::Refused(Refusal::RecordsPastEnd);
+    if records_pass(&table) {
+        return Err(Refusal::RecordsPastEnd);
     }
-    if tags_pass(table) {
-        return Verdict::Refused(Refusal::TagsPastEnd);
+    if tags_pass(&table) {
+        return Err(Refusal::TagsPastEnd);
     }
-    if storage_misplaced(table) {
-        return Verdict::Refused(Refusal::StorageMisplaced);
+    if storage_misplaced(&Framed { table }) {
+        return Err(Refusal::StorageMisplaced);
     }
-    Verdict::Accepted
+    Ok(())
 }
 
 // The first fault of the records: none where the quick pass finds none, else the exact pass says.
-fn record_faults(table: &[u8]) -> Verdict
-    requires { Framed table.now }
-    ensures { said_fault result ≡ first_among (record_fault table.now) (count table.now) }
+fn record_faults(framed: &Framed<'_>) -> Result<(), Refusal>
+    ensures { said_fault result ≡ first_among (record_fault framed.now.table.bytes.now) (count framed.now.table.bytes.now) }
 {
-    if surely_sound(table) {
-        return Verdict::Accepted;
+    if surely_sound(framed) {
+        return Ok(());
     }
-    exact_faults(table)
+    exact_faults(framed)
 }
 
 // Whether each key is above the one before it, each string ends within the table and each language is below 0x8000 plus the number of tags, which no
 // format and no platform refuses. What a turn reads of a record the next turn looks at, so that each read stays one load of a whole word.
-fn surely_sound(table: &[u8]) -> bool
-    requires { Framed table.now }
-    ensures { result ≡ true → first_among (record_fault table.now) (count table.now) ≡ none }
+fn surely_sound(framed: &Framed<'_>) -> bool
+    ensures { result ≡ true → first_among (record_fault framed.now.table.bytes.now) (count framed.now.table.bytes.now) ≡ none }
 {
-    let start = storage_start(table) as usize;
-    if table.len() < start {
+    let start = framed.table.storage_start() as usize;
+    if framed.table.bytes.len() < start {
         return false;
     }
-    let room = table.len() - start;
-    let limit = 0x8000 + tag_count(table) as u64;
-    let count = record_count(table) as usize;
+    let room = framed.table.bytes.len() - start;
+    let limit = 0x8000 + framed.table.tag_count() as u64;
     let mut last = 0;
     let mut text = 0;
-    let mut i = 0;
-    while i < count {
+    for i in 0..framed.table.record_count() as usize {
         if out_of_limits(last, text, limit, room) {
             return false;
         }
-        let here = key_at(table, i);
+        let record = RecordAt {
+            table: framed.table.bytes,
+            i,
+        };
+        let here = record.key();
         if out_of_order(i, last, here) {
             return false;
         }
-        text = name_layout::text_number(table, i);
+        text = record.text_number();
         last = here;
-        i += 1;
     }
-    if out_of_limits(last, text, limit, room) {
-        return false;
-    }
-    true
+    !out_of_limits(last, text, limit, room)
 }
 
 // The quick pass's test of a record's language and string: whether the language in a key is not below a limit, or a string's length and offset, read as
@@ -206,68 +180,60 @@ fn out_of_order(i: usize, last: u64, here: u64) -> bool
 }
 
 // The first fault of the records, by looking at each in turn.
-fn exact_faults(table: &[u8]) -> Verdict
-    requires { Framed table.now }
-    ensures { said_fault result ≡ first_among (record_fault table.now) (count table.now) }
+fn exact_faults(framed: &Framed<'_>) -> Result<(), Refusal>
+    ensures { said_fault result ≡ first_among (record_fault framed.now.table.bytes.now) (count framed.now.table.bytes.now) }
 {
-    let count = record_count(table) as usize;
-    let mut i = 0;
-    while i < count {
-        if let Verdict::Refused(r) = record_fault(table, i) {
-            return Verdict::Refused(r);
-        }
-        i += 1;
+    for i in 0..framed.table.record_count() as usize {
+        record_fault(framed, i)?;
     }
-    Verdict::Accepted
+    Ok(())
 }
 
 // The first fault of the tags.
-fn tag_faults(table: &[u8]) -> Verdict
-    requires { Framed table.now }
-    ensures { said_fault result ≡ first_among (tag_fault table.now) (tag_count table.now) }
+fn tag_faults(framed: &Framed<'_>) -> Result<(), Refusal>
+    ensures { said_fault result ≡ first_among (tag_fault framed.now.table.bytes.now) (tag_count framed.now.table.bytes.now) }
 {
-    let count = tag_count(table) as usize;
-    let mut i = 0;
-    while i < count {
-        if let Verdict::Refused(r) = tag_fault(table, i) {
-            return Verdict::Refused(r);
-        }
-        i += 1;
+    for i in 0..framed.table.tag_count() as usize {
+        tag_fault(framed, i)?;
     }
-    Verdict::Accepted
+    Ok(())
 }
 
 // The first fault of record i: 15 or 27, 18, 17 or 19.
-fn record_fault(table: &[u8], i: usize) -> Verdict
-    requires { Framed table.now × (i < count table.now) }
-    ensures { said_fault result ≡ record_fault table.now i }
+fn record_fault(framed: &Framed<'_>, i: usize) -> Result<(), Refusal>
+    requires { i < count framed.now.table.bytes.now }
+    ensures { said_fault result ≡ record_fault framed.now.table.bytes.now i }
 {
-    let at = name_layout::text_at(table, i);
-    if string_passes(table, at) {
-        if starts_beyond(table, at) {
-            return Verdict::Refused(Refusal::StringBeyond(i));
+    let record = RecordAt {
+        table: framed.table.bytes,
+        i,
+    };
+    let at = record.text_at();
+    if string_passes(&framed.table, at) {
+        if starts_beyond(&framed.table, at) {
+            return Err(Refusal::StringBeyond(i));
         }
-        return Verdict::Refused(Refusal::StringRunsOver(i));
+        return Err(Refusal::StringRunsOver(i));
     }
-    if language_refused(table, i) {
-        return Verdict::Refused(Refusal::LanguageRefused(i));
+    if language_refused(framed, i) {
+        return Err(Refusal::LanguageRefused(i));
     }
-    if not_above(table, i) {
-        if equals_before(table, i) {
-            return Verdict::Refused(Refusal::KeyEqual(i));
+    if not_above(&record) {
+        if equals_before(&record) {
+            return Err(Refusal::KeyEqual(i));
         }
-        return Verdict::Refused(Refusal::KeyBelow(i));
+        return Err(Refusal::KeyBelow(i));
     }
-    Verdict::Accepted
+    Ok(())
 }
 
 // The fault of tag i: 16.
-fn tag_fault(table: &[u8], i: usize) -> Verdict
-    requires { Framed table.now × (i < tag_count table.now) }
-    ensures { said_fault result ≡ tag_fault table.now i }
+fn tag_fault(framed: &Framed<'_>, i: usize) -> Result<(), Refusal>
+    requires { i < tag_count framed.now.table.bytes.now }
+    ensures { said_fault result ≡ tag_fault framed.now.table.bytes.now i }
 {
-    if string_passes(table, name_layout::tag_at(table, i)) {
-        return Verdict::Refused(Refusal::TagString(i));
+    if string_passes(&framed.table, framed.table.tag_at(i)) {
+        return Err(Refusal::TagString(i));
     }
-    Verdict::Accepted
+    Ok(())
 }

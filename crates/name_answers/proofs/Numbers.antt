@@ -12,7 +12,7 @@ use Rattle.name_answers.specs.declared.PostscriptRefusal.{PostscriptRefusal}
 use Rattle.name_answers.specs.declared.PostscriptRefusal.TheVariants as Postscript·
 use Rattle.name_answers.specs.declared.VersionRefusal.{VersionRefusal}
 use Rattle.name_answers.specs.declared.VersionRefusal.TheVariants as Version·
-use Rattle.name_answers.specs.declared.VersionAnswer.TheVariants.{Number}
+use Rattle.std.specs.Prelude.{Ok}
 use Rattle.name_answers.specs.Names.{said_name_refusal}
 use Rattle.name_answers.specs.Versions.{said_version_refusal, said_version}
 
@@ -59,5 +59,5 @@ version_numbers = refl
 pub version_carries : map (λ r. (said_version_refusal r).carried) versions ≡ none ∷ none ∷ []
 version_carries = refl
 
-pub version_said : (a b i : ℕ) → said_version (Number a b i) ≡ answered (record { major = a; minor = b; «record» = i })
+pub version_said : (a b i : ℕ) → said_version (Ok (record { major = a; minor = b; «record» = i })) ≡ answered (record { major = a; minor = b; «record» = i })
 version_said a b i = refl

@@ -1,4 +1,3 @@
-pub mod Steps
 pub mod Forms
 pub mod Names
 pub mod Versions

@@ -1,9 +1,9 @@
 -- Document 01, "PostScript name and version number": "Only two records count (001): (1, 0, 0, 6), one byte a character, and (3, 1, 0x409, 6), two bytes a character."
-use Rattle.std.specs.Prelude.{ℕ, true, false, List}
+use Rattle.std.specs.Prelude.{ℕ, true, false, List, Result}
 use Rattle.std.proofs.Math.Option.{Option, none, some}
 use Rattle.outcomes.specs.Firsts.{◌then◌}
 use Rattle.outcomes.specs.Outcomes as outcomes
-use Rattle.outcomes.specs.Outcomes.{bare, Outcome, refused, answered, unless, refusing}
+use Rattle.outcomes.specs.Outcomes.{bare, Outcome, refused, answered, unless, outcome_of}
 use Rattle.name_layout.specs.Layout.{bytes_of}
 use Rattle.name_layout.specs.Keys.{key_from}
 use Rattle.name.specs.Refusals.{said_refusal}
@@ -14,8 +14,6 @@ use Rattle.characters.specs.Strings.{characters}
 use Rattle.name_answers.specs.Forms.{ill_formed, differ}
 use Rattle.name_answers.specs.declared.PostscriptRefusal.{PostscriptRefusal}
 use Rattle.name_answers.specs.declared.PostscriptRefusal.TheVariants.{Table, NoRecord, OneRecord, IllFormed, Different}
-use Rattle.name_answers.specs.declared.PostscriptAnswer.{PostscriptAnswer}
-use Rattle.name_answers.specs.declared.PostscriptAnswer.TheVariants.{Name, Refused}
 
 -- 23: "a PostScript string is ill-formed"
 abbrev pub either_ill : List ℕ → List ℕ → Option outcomes.Refusal
@@ -48,6 +46,5 @@ said_name_refusal OneRecord = bare 22
 said_name_refusal IllFormed = bare 23
 said_name_refusal Different = bare 24
 
-abbrev pub said_name : PostscriptAnswer → Outcome Text
-said_name (Name x) = answered x
-said_name (Refused r) = refusing (said_name_refusal r)
+abbrev pub said_name : Result Text PostscriptRefusal → Outcome Text
+said_name r = outcome_of (λ x. x) said_name_refusal r

@@ -1,8 +1,8 @@
 -- Document 01, "The version string is (3, 1, 0x409, 5); only if that is not there, (1, 0, 0, 5); if neither, 20."
-use Rattle.std.specs.Prelude.{ℕ, true, false, List}
+use Rattle.std.specs.Prelude.{ℕ, true, false, List, Result}
 use Rattle.std.proofs.Math.Option.{Option, none, some}
 use Rattle.outcomes.specs.Outcomes as outcomes
-use Rattle.outcomes.specs.Outcomes.{bare, Outcome, refused, answered, unless, refusing}
+use Rattle.outcomes.specs.Outcomes.{bare, Outcome, refused, answered, unless, outcome_of}
 use Rattle.name_layout.specs.Layout.{bytes_of}
 use Rattle.name_layout.specs.Keys.{key_from}
 use Rattle.name.specs.Refusals.{said_refusal}
@@ -11,8 +11,7 @@ use Rattle.name_search.specs.Searches.{record_with}
 use Rattle.version_text.specs.Versions.{Figures, version_in}
 use Rattle.name_answers.specs.declared.VersionRefusal.{VersionRefusal}
 use Rattle.name_answers.specs.declared.VersionRefusal.TheVariants.{Table, NoRecord, NoNumber}
-use Rattle.name_answers.specs.declared.VersionAnswer.{VersionAnswer}
-use Rattle.name_answers.specs.declared.VersionAnswer.TheVariants.{Number, Refused}
+use Rattle.name_answers.specs.declared.VersionAt.{VersionAt}
 
 -- a version number, and by document 02, Ask 4, "the number of the record that they used"
 pub record Reading : Type 0 where
@@ -41,6 +40,8 @@ said_version_refusal (Table r) = said_refusal r
 said_version_refusal NoRecord = bare 20
 said_version_refusal NoNumber = bare 25
 
-abbrev pub said_version : VersionAnswer → Outcome Reading
-said_version (Number a b i) = answered (record { major = a; minor = b; «record» = i })
-said_version (Refused r) = refusing (said_version_refusal r)
+abbrev pub read_at : VersionAt → Reading
+read_at v = record { major = v.major; minor = v.minor; «record» = v.«record» }
+
+abbrev pub said_version : Result VersionAt VersionRefusal → Outcome Reading
+said_version r = outcome_of read_at said_version_refusal r

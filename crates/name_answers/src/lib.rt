@@ -4,11 +4,9 @@
 #![tactic(auto)]
 
 ghost use Rattle.std.specs.Prelude.{◌≡◌, true, false, not, ◌<◌};
-ghost use Rattle.std.proofs.Math.Option.{none};
 ghost use Rattle.outcomes.specs.Firsts.{when};
 ghost use Rattle.outcomes.specs.Outcomes.{bare, refusal_of};
 ghost use Rattle.name_layout.specs.Layout.{count, bytes_of};
-ghost use Rattle.name.specs.Acceptance.{faults};
 ghost use Rattle.name_search.specs.Searches.{text_of};
 ghost use Rattle.characters.specs.Strings.{characters};
 ghost use Rattle.charset.specs.Allowed.{allowed};
@@ -16,15 +14,47 @@ ghost use Rattle.version_text.specs.Versions.{version_in};
 ghost use Rattle.name_answers.specs.Forms.{wrong_count, ill_formed, differ};
 ghost use Rattle.name_answers.specs.Names.{from_strings, postscript_of, said_name_refusal, said_name};
 ghost use Rattle.name_answers.specs.Versions.{read_from, version_of, said_version_refusal, said_version};
-ghost use Rattle.name_answers.specs.Steps.{Present};
+ghost use Rattle.name_answers.specs.declared.PostscriptRefusal.TheVariants as names;
+ghost use Rattle.name_answers.specs.declared.VersionRefusal.TheVariants as versions;
 
-use name::Refusal;
-use name_search::{Found, Text};
-use outcomes::{Carried, Told};
-use version_text::Version;
+use characters::Characters;
+use name::{Accepted, Refusal};
+use name_layout::{Key, RecordAt};
+use name_search::Text;
+use outcomes::Told;
+
+// The record of the PostScript name that has one byte a character, and the one that has two.
+const POSTSCRIPT_NARROW: Key<u16> = Key {
+    platform: 1,
+    encoding: 0,
+    language: 0,
+    name: 6,
+};
+
+const POSTSCRIPT_WIDE: Key<u16> = Key {
+    platform: 3,
+    encoding: 1,
+    language: 0x409,
+    name: 6,
+};
+
+// The record of the version that has one byte a character, and the one that has two.
+const VERSION_NARROW: Key<u16> = Key {
+    platform: 1,
+    encoding: 0,
+    language: 0,
+    name: 5,
+};
+
+const VERSION_WIDE: Key<u16> = Key {
+    platform: 3,
+    encoding: 1,
+    language: 0x409,
+    name: 5,
+};
 
 // Why the PostScript question refuses.
-#[derive(Drop)]
+#[derive(Clone, Copy, Debug, PartialEq, Eq)]
 pub enum PostscriptRefusal {
     // 10 to 19 and 27: the table's own refusal.
     Table(Refusal),
@@ -38,16 +68,8 @@ pub enum PostscriptRefusal {
     Different,
 }
 
-// What the PostScript question answers.
-#[derive(Drop)]
-pub enum PostscriptAnswer {
-    // The string of the platform 1 record, with that record's number.
-    Name(Text),
-    Refused(PostscriptRefusal),
-}
-
 // Why the version question refuses.
-#[derive(Drop)]
+#[derive(Clone, Copy, Debug, PartialEq, Eq)]
 pub enum VersionRefusal {
     // 10 to 19 and 27: the table's own refusal.
     Table(Refusal),
@@ -57,146 +79,143 @@ pub enum VersionRefusal {
     NoNumber,
 }
 
-// What the version question answers.
-#[derive(Drop)]
-pub enum VersionAnswer {
-    // The figures before and after the period, and the number of the record whose string they stand in.
-    Number {
-        major: u16,
-        minor: u16,
-        record: usize,
-    },
-    Refused(VersionRefusal),
+// A version number: the figures before and after the period, and the number of the record whose string they stand in.
+#[derive(Clone, Copy, Debug, PartialEq, Eq)]
+pub struct VersionAt {
+    pub major: u16,
+    pub minor: u16,
+    pub record: usize,
 }
 
-impl PostscriptRefusal {
-    // Document 01's number, and what it carries.
-    pub fn told(self) -> Told
-        ensures { refusal_of result ≡ said_name_refusal self }
-    {
-        match self {
-            PostscriptRefusal::Table(refusal) => refusal.told(),
-            PostscriptRefusal::NoRecord => Told {
-                number: 21,
-                carried: Carried::Nothing,
-            },
-            PostscriptRefusal::OneRecord => Told {
-                number: 22,
-                carried: Carried::Nothing,
-            },
-            PostscriptRefusal::IllFormed => Told {
-                number: 23,
-                carried: Carried::Nothing,
-            },
-            PostscriptRefusal::Different => Told {
-                number: 24,
-                carried: Carried::Nothing,
-            },
+impl From<Refusal> for PostscriptRefusal {
+    ghost from_gives = { λ why r. r ≡ names.Table why };
+
+    fn from(why: Refusal) -> PostscriptRefusal {
+        PostscriptRefusal::Table(why)
+    }
+}
+
+impl From<Refusal> for VersionRefusal {
+    ghost from_gives = { λ why r. r ≡ versions.Table why };
+
+    fn from(why: Refusal) -> VersionRefusal {
+        VersionRefusal::Table(why)
+    }
+}
+
+// Document 01's number, and what it carries.
+impl From<PostscriptRefusal> for Told {
+    ghost from_gives = { λ why told. refusal_of told ≡ said_name_refusal why };
+
+    fn from(why: PostscriptRefusal) -> Told {
+        match why {
+            PostscriptRefusal::Table(refusal) => Told::from(refusal),
+            PostscriptRefusal::NoRecord => Told::bare(21),
+            PostscriptRefusal::OneRecord => Told::bare(22),
+            PostscriptRefusal::IllFormed => Told::bare(23),
+            PostscriptRefusal::Different => Told::bare(24),
         }
     }
 }
 
-impl VersionRefusal {
-    // Document 01's number, and what it carries.
-    pub fn told(self) -> Told
-        ensures { refusal_of result ≡ said_version_refusal self }
-    {
-        match self {
-            VersionRefusal::Table(refusal) => refusal.told(),
-            VersionRefusal::NoRecord => Told {
-                number: 20,
-                carried: Carried::Nothing,
-            },
-            VersionRefusal::NoNumber => Told {
-                number: 25,
-                carried: Carried::Nothing,
-            },
+impl From<VersionRefusal> for Told {
+    ghost from_gives = { λ why told. refusal_of told ≡ said_version_refusal why };
+
+    fn from(why: VersionRefusal) -> Told {
+        match why {
+            VersionRefusal::Table(refusal) => Told::from(refusal),
+            VersionRefusal::NoRecord => Told::bare(20),
+            VersionRefusal::NoNumber => Told::bare(25),
         }
     }
 }
 
-// The PostScript name of an accepted table: 21, 22, 23, 24 in this order, else the string of the record (1, 0, 0, 6).
-pub fn accepted_postscript(table: &[u8]) -> PostscriptAnswer
-    requires { faults table.now ≡ none }
-    ensures { said_name result ≡ postscript_of table.now }
+// The PostScript name of an accepted table: 21, 22, 23, 24 in this order, else the string of the record (1, 0, 0, 6), with that record's number.
+pub fn accepted_postscript(table: &Accepted<'_>) -> Result<Text, PostscriptRefusal>
+    ensures { said_name result ≡ postscript_of table.now.bytes.now }
 {
-    let first = name_search::find(table, 1, 0, 0, 6).found;
-    let second = name_search::find(table, 3, 1, 0x409, 6).found;
+    let first = name_search::find(table, POSTSCRIPT_NARROW).found;
+    let second = name_search::find(table, POSTSCRIPT_WIDE).found;
     match first {
-        Found::Record(i) => match second {
-            Found::Record(j) => from_records(table, i, j),
-            Found::Nothing => PostscriptAnswer::Refused(PostscriptRefusal::OneRecord),
+        Some(i) => match second {
+            Some(j) => from_records(table, i, j),
+            None => Err(PostscriptRefusal::OneRecord),
         },
-        Found::Nothing => match second {
-            Found::Record(_) => PostscriptAnswer::Refused(PostscriptRefusal::OneRecord),
-            Found::Nothing => PostscriptAnswer::Refused(PostscriptRefusal::NoRecord),
+        None => match second {
+            Some(_) => Err(PostscriptRefusal::OneRecord),
+            None => Err(PostscriptRefusal::NoRecord),
         },
     }
 }
 
 // The version number of an accepted table, from the record (3, 1, 0x409, 5); only if that is not there, from (1, 0, 0, 5).
-pub fn accepted_version(table: &[u8]) -> VersionAnswer
-    requires { faults table.now ≡ none }
-    ensures { said_version result ≡ version_of table.now }
+pub fn accepted_version(table: &Accepted<'_>) -> Result<VersionAt, VersionRefusal>
+    ensures { said_version result ≡ version_of table.now.bytes.now }
 {
-    let wide = name_search::find(table, 3, 1, 0x409, 5).found;
-    if let Found::Record(i) = wide {
+    if let Some(i) = name_search::find(table, VERSION_WIDE).found {
         return version_at(table, i, true);
     }
-    let narrow = name_search::find(table, 1, 0, 0, 5).found;
-    if let Found::Record(i) = narrow {
+    if let Some(i) = name_search::find(table, VERSION_NARROW).found {
         return version_at(table, i, false);
     }
-    VersionAnswer::Refused(VersionRefusal::NoRecord)
+    Err(VersionRefusal::NoRecord)
 }
 
 // The answer from the strings of two records, i of platform 1 and j of platform 3.
-fn from_records(table: &[u8], i: usize, j: usize) -> PostscriptAnswer
-    requires { Present table.now i j }
-    ensures { said_name result ≡ from_strings (text_of table.now i) (bytes_of table.now i) (bytes_of table.now j) }
+fn from_records(table: &Accepted<'_>, i: usize, j: usize) -> Result<Text, PostscriptRefusal>
+    requires { (i < count table.now.bytes.now) × (j < count table.now.bytes.now) }
+    ensures { said_name result ≡ from_strings (text_of table.now.bytes.now i) (bytes_of table.now.bytes.now i) (bytes_of table.now.bytes.now j) }
 {
-    let name = name_search::text_of(table, i);
-    let other = name_search::text_of(table, j);
-    let start = name.start;
-    let end = start + name.len;
-    let second = other.start;
-    let second_end = second + other.len;
-    from_strings(name, &table[start..end], &table[second..second_end])
+    let name = name_search::text_of(&RecordAt {
+        table: table.bytes,
+        i,
+    });
+    from_strings(
+        name,
+        name_search::string_of(table, i),
+        name_search::string_of(table, j),
+    )
 }
 
 // The answer from the bytes of the two strings; the first is the name's own.
-fn from_strings(name: Text, first: &[u8], second: &[u8]) -> PostscriptAnswer
+fn from_strings(name: Text, first: &[u8], second: &[u8]) -> Result<Text, PostscriptRefusal>
     ensures { said_name result ≡ from_strings name first.now second.now }
 {
-    if ill_formed(first, false) {
-        return PostscriptAnswer::Refused(PostscriptRefusal::IllFormed);
+    let narrow = Characters {
+        text: first,
+        wide: false,
+    };
+    let wide = Characters {
+        text: second,
+        wide: true,
+    };
+    if ill_formed(narrow) {
+        return Err(PostscriptRefusal::IllFormed);
     }
-    if ill_formed(second, true) {
-        return PostscriptAnswer::Refused(PostscriptRefusal::IllFormed);
+    if ill_formed(wide) {
+        return Err(PostscriptRefusal::IllFormed);
     }
-    if differ(first, second) {
-        return PostscriptAnswer::Refused(PostscriptRefusal::Different);
+    if differ(narrow, wide) {
+        return Err(PostscriptRefusal::Different);
     }
-    PostscriptAnswer::Name(name)
+    Ok(name)
 }
 
 // Whether a PostScript string is ill-formed, one byte a character or two.
-fn ill_formed(text: &[u8], wide: bool) -> bool
-    ensures { when result (bare 23) ≡ ill_formed wide text.now }
+fn ill_formed(string: Characters<'_>) -> bool
+    ensures { when result (bare 23) ≡ ill_formed string.entry.wide string.entry.text.now }
 {
-    if characters::is_odd(text, wide) {
+    if string.is_odd() {
         return true;
     }
-    let count = characters::count(text, wide);
+    let count = string.count();
     if wrong_count(count) {
         return true;
     }
-    let mut i = 0;
-    while i < count {
-        if is_other(characters::code(text, wide, i)) {
+    for i in 0..count {
+        if is_other(string.code(i)) {
             return true;
         }
-        i += 1;
     }
     false
 }
@@ -218,38 +237,34 @@ fn is_other(code: u16) -> bool
     !charset::is_allowed(code as u8)
 }
 
-// Whether a string of one byte a character and one of two have different characters.
-fn differ(first: &[u8], second: &[u8]) -> bool
-    ensures { when result (bare 24) ≡ differ (characters false first.now) (characters true second.now) }
+// Whether two strings have different characters. (No derive says it: of one the characters may have two bytes each, so that equal characters are not equal bytes.)
+fn differ(first: Characters<'_>, second: Characters<'_>) -> bool
+    ensures { when result (bare 24) ≡ differ (characters first.entry.wide first.entry.text.now) (characters second.entry.wide second.entry.text.now) }
 {
-    let count = characters::count(second, true);
-    if characters::count(first, false) != count {
+    let count = second.count();
+    if first.count() != count {
         return true;
     }
-    let mut i = 0;
-    while i < count {
-        if characters::code(first, false, i) != characters::code(second, true, i) {
+    for i in 0..count {
+        if first.code(i) != second.code(i) {
             return true;
         }
-        i += 1;
     }
     false
 }
 
 // The version number in record i's string, one byte a character or two, with the record's number.
-fn version_at(table: &[u8], i: usize, wide: bool) -> VersionAnswer
-    requires { (faults table.now ≡ none) × (i < count table.now) }
-    ensures { said_version result ≡ read_from i (version_in wide (bytes_of table.now i)) }
+fn version_at(table: &Accepted<'_>, i: usize, wide: bool) -> Result<VersionAt, VersionRefusal>
+    requires { i < count table.now.bytes.now }
+    ensures { said_version result ≡ read_from i (version_in wide (bytes_of table.now.bytes.now i)) }
 {
-    let text = name_search::text_of(table, i);
-    let start = text.start;
-    let end = start + text.len;
-    match version_text::version_of(&table[start..end], wide) {
-        Version::Number { major, minor } => VersionAnswer::Number {
-            major,
-            minor,
+    let text = name_search::string_of(table, i);
+    match version_text::version_of(Characters { text, wide }) {
+        Some(version) => Ok(VersionAt {
+            major: version.major,
+            minor: version.minor,
             record: i,
-        },
-        Version::NoNumber => VersionAnswer::Refused(VersionRefusal::NoNumber),
+        }),
+        None => Err(VersionRefusal::NoNumber),
     }
 }

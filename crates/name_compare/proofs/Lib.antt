@@ -4,5 +4,5 @@ pub mod Rows
 pub mod Exactly
 pub mod Theorems
 pub mod Numbers
-pub mod Saying
 pub mod Worked
+pub mod Saying

@@ -11,6 +11,7 @@ use native.Mathlib.Numerals.{add-one}
 use native.Mathlib.Decide.{dec_lt, ℕ_discrete}
 use native.Mathlib.Omega.{arith}
 use lib.ListN.{length, length-append}
+use Rattle.std.specs.Prelude.{Option as Maybe, Some, None}
 use Rattle.outcomes.specs.Firsts.{when}
 use Rattle.name_layout.specs.Layout.{count, bytes_of}
 use Rattle.name.proofs.Acceptances.{accepted_framed}
@@ -19,6 +20,8 @@ use Rattle.name_search.proofs.Halvings.{Rising, scan, scan_none, scan_found}
 use Rattle.comparing.specs.Lists.{entry_of, list_below}
 use Rattle.comparing.proofs.Lists.{no_entry, one_at_most, skip, shorter, whole}
 use Rattle.same_bytes.specs.Same.{same}
+use Rattle.name_compare.specs.declared.Which.{Which}
+use Rattle.name_compare.specs.declared.Which.TheVariants.{OnlyLeft, OnlyRight, OtherBytes}
 use Rattle.name_compare.specs.Differences.{Difference, left_only, right_only, in_both, which_of, entry_for, key_numbered, key_count, difference_at, differences}
 use Rattle.name_compare.specs.Steps.{key_at, Cut, Reached, Both, passed}
 use Rattle.name_compare.proofs.KeyNumbers.{by_number}
@@ -56,20 +59,20 @@ module _ (key : ℕ → ℕ) {n i b : ℕ} (up : Rising key n) (c : Cut key n i 
 
 -- ---- what a step lists
 
-pub passes_left : (x : ℕ) → entry_of (entry_for (key_numbered x) (some left_only)) ≡ passed x 1
+pub passes_left : (x : ℕ) → entry_of (entry_for (key_numbered x) (some left_only)) ≡ passed x (Some OnlyLeft)
 unfolding entry_of entry_for passed
 passes_left x = refl
 
-pub passes_right : (x : ℕ) → entry_of (entry_for (key_numbered x) (some right_only)) ≡ passed x 2
+pub passes_right : (x : ℕ) → entry_of (entry_for (key_numbered x) (some right_only)) ≡ passed x (Some OnlyRight)
 unfolding entry_of entry_for passed
 passes_right x = refl
 
-pub passes_same : (x : ℕ) (t : Bool) → t ≡ true → entry_of (entry_for (key_numbered x) (in_both t)) ≡ passed x 0
+pub passes_same : (x : ℕ) (t : Bool) → t ≡ true → entry_of (entry_for (key_numbered x) (in_both t)) ≡ passed x None
 unfolding in_both when entry_of entry_for passed
 passes_same x true e = refl
 passes_same x false e = absurd (false≢true e)
 
-pub passes_other : (x : ℕ) (t : Bool) → t ≡ false → entry_of (entry_for (key_numbered x) (in_both t)) ≡ passed x 3
+pub passes_other : (x : ℕ) (t : Bool) → t ≡ false → entry_of (entry_for (key_numbered x) (in_both t)) ≡ passed x (Some OtherBytes)
 unfolding in_both when entry_of entry_for passed
 passes_other x false e = refl
 passes_other x true e = absurd (false≢true (sym e))
@@ -119,7 +122,7 @@ module _ (left right : List ℕ) (k : Both left right) where
         skip (difference_at left right) r.bound x h (λ y l q. neither y (omega arith) l (λ t. omega (arith, f t)) (λ t. omega (arith, g t))) in
         rw (add-one, s, e, r.is)
 
-    pub left_only_lem : key_at left i < key_count → i < count left → (j < count right → key_at left i < key_at right j) → Reached left right (i + 1) j (out ++ passed (key_at left i) 1)
+    pub left_only_lem : key_at left i < key_count → i < count left → (j < count right → key_at left i < key_at right j) → Reached left right (i + 1) j (out ++ passed (key_at left i) (Some OnlyLeft))
     unfolding which_of
     left_only_lem m h g =
         let x = key_at left i in
@@ -133,7 +136,7 @@ module _ (left right : List ℕ) (k : Both left right) where
           is = least x m b (λ q. omega arith) (λ q. omega (arith, g q)) (ap entry_of d ∙ passes_left x);
         }
 
-    pub right_only_lem : key_at right j < key_count → j < count right → (i < count left → key_at right j < key_at left i) → Reached left right i (j + 1) (out ++ passed (key_at right j) 2)
+    pub right_only_lem : key_at right j < key_count → j < count right → (i < count left → key_at right j < key_at left i) → Reached left right i (j + 1) (out ++ passed (key_at right j) (Some OnlyRight))
     unfolding which_of
     right_only_lem m h g =
         let x = key_at right j in
@@ -148,7 +151,7 @@ module _ (left right : List ℕ) (k : Both left right) where
         }
 
     pub in_both_lem : key_at left i < key_count → i < count left → j < count right → key_at right j ≡ key_at left i →
-        (w : ℕ) → entry_of (entry_for (key_numbered (key_at left i)) (in_both (same (bytes_of left i) (bytes_of right j)))) ≡ passed (key_at left i) w →
+        (w : Maybe Which) → entry_of (entry_for (key_numbered (key_at left i)) (in_both (same (bytes_of left i) (bytes_of right j)))) ≡ passed (key_at left i) w →
         Reached left right (i + 1) (j + 1) (out ++ passed (key_at left i) w)
     unfolding which_of
     in_both_lem m h g e w s =

@@ -10,12 +10,12 @@ use Rattle.name.specs.declared.Refusal.TheVariants.{TooShort, UnknownFormat, Rec
 use Rattle.name.specs.declared.Refusal.TheVariants.{StringBeyond, TagString, KeyBelow, LanguageRefused, KeyEqual, StringRunsOver}
 use Rattle.outcomes.specs.Outcomes.{bare, carrying}
 use Rattle.name_layout.specs.Keys.{key_from}
-use Rattle.comparing.specs.declared.Side.TheVariants as Side·
+use Rattle.std.specs.Prelude.{Ok, Err}
+use Rattle.comparing.specs.Comparisons as side
 use Rattle.comparing.specs.Comparisons.{listed, refused}
 use Rattle.name_compare.specs.declared.Refusal.{Refusal}
 use Rattle.name_compare.specs.declared.Refusal.TheVariants.{Left, Right, TooManyDifferences}
 use Rattle.name_compare.specs.Differences.{Difference, left_only, right_only, both_other, key_numbered, row_of}
-use Rattle.name_compare.specs.declared.Compared.TheVariants.{Listed, Refused}
 use Rattle.name_compare.specs.Comparisons.{said_refusal, said_compared}
 use Rattle.name_compare.specs.Settled.{DifferenceBelow}
 
@@ -25,8 +25,8 @@ refusals =
     ∷ Right (KeyBelow 23) ∷ Left (LanguageRefused 24) ∷ Right (KeyEqual 25) ∷ Left (StringRunsOver 26) ∷ TooManyDifferences ∷ []
 
 pub sides : map (λ r. (said_refusal r).side) refusals
-    ≡ Side·.Left ∷ Side·.Right ∷ Side·.Left ∷ Side·.Right ∷ Side·.Left ∷ Side·.Right ∷ Side·.Left ∷ Side·.Right ∷ Side·.Left ∷ Side·.Right ∷ Side·.Left
-    ∷ Side·.Neither ∷ []
+    ≡ side.Left ∷ side.Right ∷ side.Left ∷ side.Right ∷ side.Left ∷ side.Right ∷ side.Left ∷ side.Right ∷ side.Left ∷ side.Right ∷ side.Left
+    ∷ side.Neither ∷ []
 sides = refl
 
 pub numbers : map (λ r. (said_refusal r).refusal.number) refusals ≡ 10 ∷ 11 ∷ 12 ∷ 13 ∷ 14 ∷ 15 ∷ 16 ∷ 17 ∷ 18 ∷ 19 ∷ 27 ∷ 29 ∷ []
@@ -36,8 +36,8 @@ pub carries : map (λ r. (said_refusal r).refusal.carried) refusals
     ≡ none ∷ none ∷ none ∷ none ∷ none ∷ some 21 ∷ some 22 ∷ some 23 ∷ some 24 ∷ some 25 ∷ some 26 ∷ none ∷ []
 carries = refl
 
-pub answers : map said_compared (Listed 7 ∷ Refused (Left (KeyBelow 1)) ∷ Refused (Right UnknownFormat) ∷ Refused TooManyDifferences ∷ [])
-    ≡ listed 7 ∷ refused Side·.Left (carrying 17 1) ∷ refused Side·.Right (bare 11) ∷ refused Side·.Neither (bare 29) ∷ []
+pub answers : map said_compared (Ok 7 ∷ Err (Left (KeyBelow 1)) ∷ Err (Right UnknownFormat) ∷ Err TooManyDifferences ∷ [])
+    ≡ listed 7 ∷ refused side.Left (carrying 17 1) ∷ refused side.Right (bare 11) ∷ refused side.Neither (bare 29) ∷ []
 answers = refl
 
 abbrev differing : List Difference

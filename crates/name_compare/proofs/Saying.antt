@@ -9,11 +9,11 @@ use Rattle.name.specs.declared.Refusal as names
 use Rattle.name.specs.declared.Refusal.TheVariants.{TooShort, UnknownFormat, RecordsPastEnd, TagsPastEnd, StorageMisplaced}
 use Rattle.name.specs.declared.Refusal.TheVariants.{StringBeyond, TagString, KeyBelow, LanguageRefused, KeyEqual, StringRunsOver}
 use Rattle.name.specs.Refusals as refusals
-use Rattle.comparing.specs.declared.Side.TheVariants as Side·
+use Rattle.std.specs.Prelude.{Result, Ok, Err}
+use Rattle.comparing.specs.Comparisons as side
 use Rattle.comparing.specs.Comparisons.{Comparison, listed, refused}
+use Rattle.name_compare.specs.declared.Refusal.{Refusal}
 use Rattle.name_compare.specs.declared.Refusal.TheVariants.{Left, Right, TooManyDifferences}
-use Rattle.name_compare.specs.declared.Compared.{Compared}
-use Rattle.name_compare.specs.declared.Compared.TheVariants.{Listed, Refused}
 use Rattle.name_compare.specs.Comparisons.{said_compared}
 
 -- a table's refusal from its number and what it carries
@@ -39,17 +39,17 @@ why_back (LanguageRefused k) = refl
 why_back (KeyEqual k) = refl
 why_back (StringRunsOver k) = refl
 
-pub compared_once : (r s : Compared) → said_compared r ≡ said_compared s → r ≡ s
+pub compared_once : (r s : Result ℕ Refusal) → said_compared r ≡ said_compared s → r ≡ s
 compared_once r s e = sym (back r) ∙ (ap hear e ∙ back s)
   where
-    hear : Comparison → Compared
-    hear (listed n) = Listed n
-    hear (refused Side·.Neither r) = Refused TooManyDifferences
-    hear (refused Side·.Left r) = Refused (Left (why_of r.number r.carried))
-    hear (refused Side·.Right r) = Refused (Right (why_of r.number r.carried))
+    hear : Comparison → Result ℕ Refusal
+    hear (listed n) = Ok n
+    hear (refused side.Neither r) = Err TooManyDifferences
+    hear (refused side.Left r) = Err (Left (why_of r.number r.carried))
+    hear (refused side.Right r) = Err (Right (why_of r.number r.carried))
 
-    back : (r : Compared) → hear (said_compared r) ≡ r
-    back (Listed n) = refl
-    back (Refused (Left r)) = ap (λ x. Refused (Left x)) (why_back r)
-    back (Refused (Right r)) = ap (λ x. Refused (Right x)) (why_back r)
-    back (Refused TooManyDifferences) = refl
+    back : (r : Result ℕ Refusal) → hear (said_compared r) ≡ r
+    back (Ok n) = refl
+    back (Err (Left r)) = ap (λ x. Err (Left x)) (why_back r)
+    back (Err (Right r)) = ap (λ x. Err (Right x)) (why_back r)
+    back (Err TooManyDifferences) = refl

@@ -1,16 +1,14 @@
 -- Document 02, Ask 2, of two 'name' tables: what the comparison answers, and what the lent room then holds.
-use Rattle.std.specs.Prelude.{ℕ, List, length}
+use Rattle.std.specs.Prelude.{ℕ, List, length, Result}
 use Rattle.std.proofs.Math.Option.{Option, none}
 use Rattle.outcomes.specs.Outcomes.{bare}
 use Rattle.name.specs.Refusals as refusals
 use Rattle.name.specs.Acceptance.{faults}
-use Rattle.comparing.specs.declared.Side.TheVariants as Side·
 use Rattle.comparing.specs.Rooms.{rows_of}
-use Rattle.comparing.specs.Comparisons.{Blamed, on, blame, Comparison, listed, refused, answer_of, room_after}
+use Rattle.comparing.specs.Comparisons as side
+use Rattle.comparing.specs.Comparisons.{Blamed, on, blame, Comparison, answer_of, room_after, said_by}
 use Rattle.name_compare.specs.declared.Refusal.{Refusal}
 use Rattle.name_compare.specs.declared.Refusal.TheVariants.{Left, Right, TooManyDifferences}
-use Rattle.name_compare.specs.declared.Compared.{Compared}
-use Rattle.name_compare.specs.declared.Compared.TheVariants.{Listed, Refused}
 use Rattle.name_compare.specs.Differences.{differences, row_of}
 
 -- 10 to 19 and 27, "left first"; then 29. The call has no refusal of its own
@@ -27,10 +25,9 @@ room_of left right room = room_after (blame_of left right (length room)) (rows_o
 
 -- what the code's refusals and answers say
 abbrev pub said_refusal : Refusal → Blamed
-said_refusal (Left r) = on Side·.Left (refusals.said_refusal r)
-said_refusal (Right r) = on Side·.Right (refusals.said_refusal r)
-said_refusal TooManyDifferences = on Side·.Neither (bare 29)
+said_refusal (Left r) = on side.Left (refusals.said_refusal r)
+said_refusal (Right r) = on side.Right (refusals.said_refusal r)
+said_refusal TooManyDifferences = on side.Neither (bare 29)
 
-abbrev pub said_compared : Compared → Comparison
-said_compared (Listed n) = listed n
-said_compared (Refused r) = refused (said_refusal r).side (said_refusal r).refusal
+abbrev pub said_compared : Result ℕ Refusal → Comparison
+said_compared r = said_by said_refusal r

@@ -3,7 +3,7 @@
 use Rattle.std.specs.Prelude.{ℕ, ◌≡◌, List, [], ◌∷◌, replicate}
 use Rattle.outcomes.specs.Outcomes.{bare}
 use Rattle.name_layout.specs.Keys.{key_from}
-use Rattle.comparing.specs.declared.Side.TheVariants.{Neither, Left, Right}
+use Rattle.comparing.specs.Comparisons.{Neither, Left, Right}
 use Rattle.comparing.specs.Comparisons.{listed, refused}
 use Rattle.name_compare.specs.Differences.{Difference, differences}
 use Rattle.name_compare.specs.Comparisons.{compared_of, room_of}

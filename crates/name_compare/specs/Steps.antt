@@ -1,13 +1,16 @@
 -- What a pass over both tables keeps: the keys that it has passed are those below a bound, and what it has listed is what differs of these.
-use Rattle.std.specs.Prelude.{ℕ, ◌+◌, ◌≤◌, ◌<◌, ◌≡◌, cond, List, [], ◌∷◌, ◌++◌, eqb}
+use Rattle.std.specs.Prelude.{ℕ, ◌+◌, ◌≤◌, ◌<◌, ◌≡◌, List, [], ◌∷◌, ◌++◌, Option as Maybe, Some, None}
 use Rattle.std.proofs.Math.Option.{none}
 use Rattle.bigendian.specs.Numbers.{Bytes}
 use Rattle.name_layout.specs.Layout.{count}
 use Rattle.name_layout.specs.Keys.{key_of, packed}
 use Rattle.name.specs.Acceptance.{faults}
 use Rattle.comparing.specs.Lists.{list_below}
+use Rattle.name_compare.specs.declared.Pair.{Pair}
 use Rattle.name_compare.specs.declared.Step.{Step}
-use Rattle.name_compare.specs.Differences.{Difference, key_numbered, key_count, difference_at}
+use Rattle.name_compare.specs.declared.Which.{Which}
+use Rattle.name_compare.specs.declared.Which.TheVariants.{OnlyLeft, OnlyRight, OtherBytes}
+use Rattle.name_compare.specs.Differences.{Difference, left_only, right_only, both_other, key_numbered, key_count, difference_at}
 
 -- the key of record i as one number
 abbrev pub key_at : List ℕ → ℕ → ℕ
@@ -33,22 +36,25 @@ pub record Both (left right : List ℕ) : Type 0 where
   pub left_accepted : faults left ≡ none
   pub right_accepted : faults right ≡ none
 
--- a record of each
-pub record Records (left right : List ℕ) (i j : ℕ) : Type 0 where
-  pub both : Both left right
-  pub on_left : i < count left
-  pub on_right : j < count right
+pub both_of : (x : Pair) → Both x.left.bytes.now x.right.bytes.now
+both_of x = record { left_bytes = x.left.each; right_bytes = x.right.each; left_accepted = x.left.accepted; right_accepted = x.right.accepted }
 
 -- a place of the pass that is not its end
 pub record Within (left right : List ℕ) (i j : ℕ) : Type 0 where
-  pub both : Both left right
   pub on_left : i ≤ count left
   pub on_right : j ≤ count right
   pub more : i + j < count left + count right
 
+-- the number of what a key is
+abbrev pub which_number : Which → ℕ
+which_number OnlyLeft = left_only
+which_number OnlyRight = right_only
+which_number OtherBytes = both_other
+
 -- what a step lists: the key that it passes, if it is one of the three
-unfoldable pub passed : ℕ → ℕ → List Difference
-passed key which = cond (eqb which 0) [] (record { key = key_numbered key; which = which } ∷ [])
+unfoldable pub passed : ℕ → Maybe Which → List Difference
+passed key None = []
+passed key (Some w) = record { key = key_numbered key; which = which_number w } ∷ []
 
 -- a step goes on, and lists its key if it is one of the three
 pub record Stepped (left right : List ℕ) (i j : ℕ) (s : Step) : Type 0 where

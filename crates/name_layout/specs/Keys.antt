@@ -1,6 +1,7 @@
 -- Document 01, "The key is platform, encoding, language, name, compared in that order": as tests, as propositions, and as the code's one number.
 use Rattle.std.specs.Prelude.{ℕ, ◌+◌, ◌*◌, ◌<◌, ◌≡◌, ◌⊎◌, Bool, ◌&&◌, ◌||◌, List, ltb, eqb}
 use Rattle.name_layout.specs.Layout as layout
+use Rattle.name_layout.specs.declared.Key.{Key as Numbers}
 
 -- a key: its four numbers
 pub record Key : Type 0 where
@@ -12,6 +13,10 @@ pub record Key : Type 0 where
 -- four numbers as a key
 abbrev pub key_from : ℕ → ℕ → ℕ → ℕ → Key
 key_from p e l n = record { platform = p; encoding = e; language = l; name = n }
+
+-- a key of the code
+abbrev pub key_in : Numbers ℕ → Key
+key_in k = key_from k.platform k.encoding k.language k.name
 
 -- the key of record i
 unfoldable pub key_of : List ℕ → ℕ → Key

@@ -3,9 +3,9 @@
 #![tactic(auto)]
 
 ghost use Rattle.std.specs.Prelude.{◌≡◌, ◌+◌, ◌≤◌, length};
-ghost use Rattle.bigendian.specs.Numbers.{number};
+ghost use Rattle.bigendian.specs.Numbers.{number, Bytes};
 ghost use Rattle.name_layout.specs.Layout.{format, count, storage, record_at, part, record_in, text_at, records_end, tag_count, tags_at, tag_at, tags_end, string_start, string_length};
-ghost use Rattle.name_layout.specs.Keys.{key_from, key_of, packed};
+ghost use Rattle.name_layout.specs.Keys.{key_in, key_of, packed};
 
 use bigendian::{read_u16, read_u32};
 
@@ -33,8 +33,27 @@ const TAG_COUNT_SIZE: usize = 2;
 
 const TAG_SIZE: usize = 4;
 
+// The four numbers of a key: those of a record have 16 bits, and one that is asked for may have more.
+#[derive(Clone, Copy, Debug, PartialEq, Eq)]
+pub struct Key<N> {
+    pub platform: N,
+    pub encoding: N,
+    pub language: N,
+    pub name: N,
+}
+
+impl Key<u16> {
+    // The four as one number, in whose order keys are compared.
+    pub fn number(self) -> u64
+        ensures { result ≡ packed (key_in self) }
+    {
+        let first = u64::from(self.platform) * 65536 + u64::from(self.encoding);
+        (first * 65536 + u64::from(self.language)) * 65536 + u64::from(self.name)
+    }
+}
+
 // A name record.
-#[derive(Drop)]
+#[derive(Clone, Copy, Debug, PartialEq, Eq)]
 pub struct Record {
     pub platform: u16,
     pub encoding: u16,
@@ -44,144 +63,150 @@ pub struct Record {
     pub offset: u16,
 }
 
-// The table's format.
-pub fn format_number(table: &[u8]) -> u16
-    requires { 6 ≤ length table.now }
-    ensures { result ≡ format table.now }
-{
-    read_u16(table, 0)
+// A table that has its header, the three first numbers.
+#[derive(Clone, Copy)]
+pub struct Table<'a> {
+    pub bytes: &'a [u8],
+    ghost each: { Bytes bytes.now },
+    ghost header: { 6 ≤ length bytes.now },
 }
 
-// The number of name records.
-pub fn record_count(table: &[u8]) -> u16
-    requires { 6 ≤ length table.now }
-    ensures { result ≡ count table.now }
-{
-    read_u16(table, 2)
-}
+impl Table<'_> {
+    // The table's format.
+    pub fn format_number(&self) -> u16
+        ensures { result ≡ format self.now.bytes.now }
+    {
+        read_u16(self.bytes, 0)
+    }
 
-// Where the storage starts.
-pub fn storage_start(table: &[u8]) -> u16
-    requires { 6 ≤ length table.now }
-    ensures { result ≡ storage table.now }
-{
-    read_u16(table, 4)
-}
+    // The number of name records.
+    pub fn record_count(&self) -> u16
+        ensures { result ≡ count self.now.bytes.now }
+    {
+        read_u16(self.bytes, 2)
+    }
 
-// Where the name records end.
-pub fn records_end(table: &[u8]) -> usize
-    requires { 6 ≤ length table.now }
-    ensures { result ≡ records_end table.now }
-{
-    HEADER_SIZE + RECORD_SIZE * (record_count(table) as usize)
-}
+    // Where the storage starts.
+    pub fn storage_start(&self) -> u16
+        ensures { result ≡ storage self.now.bytes.now }
+    {
+        read_u16(self.bytes, 4)
+    }
 
-// Record i.
-pub fn record_at(table: &[u8], i: usize) -> Record
-    requires { record_at i + 12 ≤ length table.now }
-    ensures { result ≡ record_in table.now i }
-{
-    Record {
-        platform: part(table, i, PLATFORM),
-        encoding: part(table, i, ENCODING),
-        language: part(table, i, LANGUAGE),
-        name: part(table, i, NAME),
-        length: part(table, i, LENGTH),
-        offset: part(table, i, LENGTH + OFFSET),
+    // Where the name records end.
+    pub fn records_end(&self) -> usize
+        ensures { result ≡ records_end self.now.bytes.now }
+    {
+        HEADER_SIZE + RECORD_SIZE * (self.record_count() as usize)
+    }
+
+    // Where the language tags start.
+    pub fn tags_start(&self) -> usize
+        ensures { result ≡ tags_at self.now.bytes.now }
+    {
+        if self.format_number() == 0 {
+            return self.records_end();
+        }
+        self.records_end() + TAG_COUNT_SIZE
+    }
+
+    // The number of language tags, none in format 0.
+    pub fn tag_count(&self) -> u16
+        requires { tags_at self.now.bytes.now ≤ length self.now.bytes.now }
+        ensures { result ≡ tag_count self.now.bytes.now }
+    {
+        if self.format_number() == 0 {
+            return 0;
+        }
+        read_u16(self.bytes, self.records_end())
+    }
+
+    // Where the language tags end.
+    pub fn tags_end(&self) -> usize
+        requires { tags_at self.now.bytes.now ≤ length self.now.bytes.now }
+        ensures { result ≡ tags_end self.now.bytes.now }
+    {
+        self.tags_start() + TAG_SIZE * (self.tag_count() as usize)
+    }
+
+    // Where tag i has its string's length, and after it the offset.
+    pub fn tag_at(&self, i: usize) -> usize
+        requires { tag_at self.now.bytes.now i ≤ length self.now.bytes.now }
+        ensures { result ≡ tag_at self.now.bytes.now i }
+    {
+        self.tags_start() + TAG_SIZE * i
+    }
+
+    // Where a string starts, from the table's first byte: the one whose length and offset stand at a place.
+    pub fn string_start(&self, at: usize) -> usize
+        requires { at + 4 ≤ length self.now.bytes.now }
+        ensures { result ≡ string_start self.now.bytes.now at }
+    {
+        self.storage_start() as usize + read_u16(self.bytes, at + OFFSET) as usize
     }
 }
 
-// The four numbers of a key as one.
-pub fn key_number(platform: u16, encoding: u16, language: u16, name: u16) -> u64
-    ensures { result ≡ packed (key_from platform encoding language name) }
-{
-    ((platform as u64 * 65536 + encoding as u64) * 65536 + language as u64) * 65536 + name as u64
+// Record i of a table that it lies within.
+#[derive(Clone, Copy)]
+pub struct RecordAt<'a> {
+    pub table: &'a [u8],
+    pub i: usize,
+    ghost each: { Bytes table.now },
+    ghost inside: { record_at i + 12 ≤ length table.now },
 }
 
-// The key of record i as one number.
-pub fn key_at(table: &[u8], i: usize) -> u64
-    requires { record_at i + 12 ≤ length table.now }
-    ensures { result ≡ packed (key_of table.now i) }
-{
-    key_number(
-        part(table, i, PLATFORM),
-        part(table, i, ENCODING),
-        part(table, i, LANGUAGE),
-        part(table, i, NAME),
-    )
-}
-
-// The number that stands so many bytes after the start of record i.
-fn part(table: &[u8], i: usize, at: usize) -> u16
-    requires { (record_at i + 12 ≤ length table.now) × (at ≤ 10) }
-    ensures { result ≡ part table.now i at }
-{
-    read_u16(table, HEADER_SIZE + RECORD_SIZE * i + at)
-}
-
-// Where record i has its string's length, and after it the offset.
-pub fn text_at(table: &[u8], i: usize) -> usize
-    requires { record_at i + 12 ≤ length table.now }
-    ensures { result ≡ text_at i }
-{
-    HEADER_SIZE + RECORD_SIZE * i + LENGTH
-}
-
-// The length and the offset of record i's string as one number.
-pub fn text_number(table: &[u8], i: usize) -> u32
-    requires { record_at i + 12 ≤ length table.now }
-    ensures { result ≡ number 4 table.now (text_at i) }
-{
-    read_u32(table, HEADER_SIZE + RECORD_SIZE * i + LENGTH)
-}
-
-// Where the language tags start.
-pub fn tags_start(table: &[u8]) -> usize
-    requires { 6 ≤ length table.now }
-    ensures { result ≡ tags_at table.now }
-{
-    if format_number(table) == 0 {
-        return records_end(table);
+impl RecordAt<'_> {
+    // The record's numbers.
+    pub fn record(&self) -> Record
+        ensures { result ≡ record_in self.now.table.now self.now.i }
+    {
+        Record {
+            platform: self.part(PLATFORM),
+            encoding: self.part(ENCODING),
+            language: self.part(LANGUAGE),
+            name: self.part(NAME),
+            length: self.part(LENGTH),
+            offset: self.part(LENGTH + OFFSET),
+        }
     }
-    records_end(table) + TAG_COUNT_SIZE
-}
 
-// The number of language tags, none in format 0.
-pub fn tag_count(table: &[u8]) -> u16
-    requires { (6 ≤ length table.now) × (tags_at table.now ≤ length table.now) }
-    ensures { result ≡ tag_count table.now }
-{
-    if format_number(table) == 0 {
-        return 0;
+    // Its key as one number.
+    pub fn key(&self) -> u64
+        ensures { result ≡ packed (key_of self.now.table.now self.now.i) }
+    {
+        let key = Key {
+            platform: self.part(PLATFORM),
+            encoding: self.part(ENCODING),
+            language: self.part(LANGUAGE),
+            name: self.part(NAME),
+        };
+        key.number()
     }
-    read_u16(table, records_end(table))
+
+    // The number that stands so many bytes after its start.
+    fn part(&self, at: usize) -> u16
+        requires { at ≤ 10 }
+        ensures { result ≡ part self.now.table.now self.now.i at }
+    {
+        read_u16(self.table, HEADER_SIZE + RECORD_SIZE * self.i + at)
+    }
+
+    // Where it has its string's length, and after it the offset.
+    pub fn text_at(&self) -> usize
+        ensures { result ≡ text_at self.now.i }
+    {
+        HEADER_SIZE + RECORD_SIZE * self.i + LENGTH
+    }
+
+    // The length and the offset of its string as one number.
+    pub fn text_number(&self) -> u32
+        ensures { result ≡ number 4 self.now.table.now (text_at self.now.i) }
+    {
+        read_u32(self.table, HEADER_SIZE + RECORD_SIZE * self.i + LENGTH)
+    }
 }
 
-// Where the language tags end.
-pub fn tags_end(table: &[u8]) -> usize
-    requires { (6 ≤ length table.now) × (tags_at table.now ≤ length table.now) }
-    ensures { result ≡ tags_end table.now }
-{
-    tags_start(table) + TAG_SIZE * (tag_count(table) as usize)
-}
-
-// Where tag i has its string's length, and after it the offset.
-pub fn tag_at(table: &[u8], i: usize) -> usize
-    requires { (6 ≤ length table.now) × (tag_at table.now i ≤ length table.now) }
-    ensures { result ≡ tag_at table.now i }
-{
-    tags_start(table) + TAG_SIZE * i
-}
-
-// Where a string starts, from the table's first byte: the one whose length and offset stand at a place.
-pub fn string_start(table: &[u8], at: usize) -> usize
-    requires { (6 ≤ length table.now) × (at + 4 ≤ length table.now) }
-    ensures { result ≡ string_start table.now at }
-{
-    storage_start(table) as usize + read_u16(table, at + OFFSET) as usize
-}
-
-// The length of such a string.
+// The length of a string whose length and offset stand at a place.
 pub fn string_length(table: &[u8], at: usize) -> u16
     requires { at + 4 ≤ length table.now }
     ensures { result ≡ string_length table.now at }

@@ -1,97 +1,117 @@
 // The lines of a 'name' table's listing, from the table: head, records, PostScript name and version.
 // Document 01, end of "Examples to check against", and document 02, Ask 4.
-// It relies on the table's layout and check, on the answers to its two questions, and on the pieces of lines of `lines`.
+// It relies on the table's layout and check, on the answers to its two questions, and on the lines of `lines`.
 #![tactic(auto)]
 
-ghost use Rattle.std.specs.Prelude.{◌+◌, ◌≤◌, ◌≡◌, length};
-ghost use Rattle.std.proofs.Math.Option.{none};
-ghost use Rattle.lines.specs.Lines.{line_of};
-ghost use Rattle.name_layout.specs.Layout.{record_at};
-ghost use Rattle.name.specs.Acceptance.{faults};
+ghost use Rattle.std.specs.Prelude.{◌+◌, ◌≤◌, ◌≡◌, ◌++◌, length, take, drop};
+ghost use Rattle.outcomes.specs.Outcomes.{answered};
 ghost use Rattle.name_answers.specs.Names.{postscript_of};
 ghost use Rattle.name_answers.specs.Versions.{version_of};
+ghost use Rattle.name_lines.specs.Lines.{key_room, key_parts};
 ghost use Rattle.name_lines.specs.Listings.{head_text, record_text, postscript_text, version_text};
 
-use lines::{Line, numbered_line, three_numbered_line};
-use name_answers::{PostscriptAnswer, VersionAnswer};
-
-mod plain;
-
-pub use plain::put_key;
+use lines::{Buffer, Line};
+use name::Accepted;
+use name_layout::{Key, RecordAt, Table};
+use name_search::Text;
+use outcomes::Told;
 
 // The first line of an accepted table.
-pub fn head_line(table: &[u8]) -> Line
-    requires { faults table.now ≡ none }
-    ensures { line_of result ≡ head_text table.now }
+#[tactic(auto, unfolding(crate::specs::Lines::head_line))]
+pub fn head_line(table: &Accepted<'_>) -> Line
+    ensures { result ≡ head_text table.now.bytes.now }
 {
-    let format = name_layout::format_number(table) as u64;
-    let records = name_layout::record_count(table) as u64;
-    let start = name_layout::storage_start(table) as usize;
-    let storage = (table.len() - start) as u64;
-    three_numbered_line(
-        b"name format ",
-        format,
-        b" records ",
-        records,
-        b" storage ",
-        storage,
-    )
+    let table = Table { bytes: table.bytes };
+    let format = table.format_number();
+    let records = table.record_count();
+    let start = usize::from(table.storage_start());
+    let mut line = Line::new();
+    line.put_numbered(b"name format ", u64::from(format));
+    line.put_numbered(b" records ", u64::from(records));
+    line.put_numbered(b" storage ", (table.bytes.len() - start) as u64);
+    line.put(b"\n");
+    line
 }
 
-// The line of record i, which lies within the table.
-pub fn record_line(table: &[u8], i: usize) -> Line
-    requires { record_at i + 12 ≤ length table.now }
-    ensures { line_of result ≡ record_text table.now i }
+// The line of a record.
+#[tactic(auto, unfolding(crate::specs::Lines::record_line))]
+pub fn record_line(here: &RecordAt<'_>) -> Line
+    ensures { result ≡ record_text here.now.table.now here.now.i }
 {
-    let r = name_layout::record_at(table, i);
-    plain::record_line(
-        i as u64,
-        r.platform as u64,
-        r.encoding as u64,
-        r.language as u64,
-        r.name as u64,
-        r.offset as u64,
-        r.length as u64,
-    )
+    let record = here.record();
+    let mut line = Line::new();
+    line.put_number(here.i as u64);
+    let key = Key {
+        platform: u64::from(record.platform),
+        encoding: u64::from(record.encoding),
+        language: u64::from(record.language),
+        name: u64::from(record.name),
+    };
+    put_key(&mut line, key);
+    line.put_numbered(b" ", u64::from(record.offset));
+    line.put_numbered(b" ", u64::from(record.length));
+    line.put(b"\n");
+    line
+}
+
+// Puts the four parts of a key.
+#[tactic(auto, using(std::proofs::Common::append_assoc), unfolding(crate::specs::Lines::key_parts))]
+pub fn put_key<const ROOM: usize>(line: &mut Buffer<ROOM>, key: Key<u64>)
+    requires { length line.old + key_room ≤ ROOM }
+    ensures holds { line.new ≡ line.old ++ key_parts key.platform key.encoding key.language key.name }
+    ensures room { length line.new ≤ length line.old + key_room }
+{
+    line.put_numbered(b" ", key.platform);
+    line.put_numbered(b" ", key.encoding);
+    line.put_numbered(b" ", key.language);
+    line.put_numbered(b" ", key.name);
 }
 
 // The line of an accepted table's PostScript name.
-pub fn postscript_line(table: &[u8]) -> Line
-    requires { faults table.now ≡ none }
-    ensures { line_of result ≡ postscript_text table.now (postscript_of table.now) }
+#[tactic(auto, unfolding(crate::specs::Lines::postscript_line))]
+pub fn postscript_line(table: &Accepted<'_>) -> Line
+    ensures { result ≡ postscript_text table.now.bytes.now (postscript_of table.now.bytes.now) }
 {
+    let mut line = Line::new();
     match name_answers::accepted_postscript(table) {
-        PostscriptAnswer::Name(text) => {
-            let start = text.start;
-            let end = start + text.len;
-            plain::postscript_line(&table[start..end], text.record as u64)
+        Ok(text) => {
+            line.put(b"postscript ");
+            line.put(name_in(table, &text));
+            line.put_numbered(b" record ", text.record as u64);
         }
-        PostscriptAnswer::Refused(refusal) => {
-            numbered_line(b"postscript refused ", refusal.told().number as u64)
+        Err(why) => {
+            line.put_numbered(b"postscript refused ", u64::from(Told::from(why).number));
         }
     }
+    line.put(b"\n");
+    line
+}
+
+// The characters of an accepted table's PostScript name.
+fn name_in<'a>(table: &Accepted<'a>, name: &Text) -> &'a [u8]
+    requires { postscript_of table.now.bytes.now ≡ answered name.now }
+    ensures bytes { result.now ≡ take name.now.len (drop name.now.start table.now.bytes.now) }
+    ensures most { length result.now ≤ 63 }
+{
+    &table.bytes[name.start..name.start + name.len]
 }
 
 // The line of an accepted table's version.
-pub fn version_line(table: &[u8]) -> Line
-    requires { faults table.now ≡ none }
-    ensures { line_of result ≡ version_text (version_of table.now) }
+#[tactic(auto, unfolding(crate::specs::Lines::version_line))]
+pub fn version_line(table: &Accepted<'_>) -> Line
+    ensures { result ≡ version_text (version_of table.now.bytes.now) }
 {
+    let mut line = Line::new();
     match name_answers::accepted_version(table) {
-        VersionAnswer::Number {
-            major,
-            minor,
-            record,
-        } => three_numbered_line(
-            b"version ",
-            major as u64,
-            b" ",
-            minor as u64,
-            b" record ",
-            record as u64,
-        ),
-        VersionAnswer::Refused(refusal) => {
-            numbered_line(b"version refused ", refusal.told().number as u64)
+        Ok(version) => {
+            line.put_numbered(b"version ", u64::from(version.major));
+            line.put_numbered(b" ", u64::from(version.minor));
+            line.put_numbered(b" record ", version.record as u64);
+        }
+        Err(why) => {
+            line.put_numbered(b"version refused ", u64::from(Told::from(why).number));
         }
     }
+    line.put(b"\n");
+    line
 }

@@ -6,17 +6,19 @@
 
 ghost use Rattle.std.specs.Prelude.{◌≡◌};
 ghost use Rattle.outcomes.specs.Outcomes.{refusal_of};
-ghost use Rattle.name_layout.specs.Keys.{key_from};
+ghost use Rattle.name_layout.specs.Keys.{key_in};
+ghost use Rattle.name_lookup.specs.declared.LookupRefusal.TheVariants.{Table};
 ghost use Rattle.name_lookup.specs.Answers.{said_lookup_refusal, said_lookup, lookup_of, looked_of};
 
+use name::Accepted;
 pub use name::Refusal;
-use name::Verdict;
-use name_search::Found;
+pub use name_layout::Key;
+use name_layout::RecordAt;
 pub use name_search::Text;
-use outcomes::{Carried, Told};
+use outcomes::Told;
 
 // Why a lookup refuses.
-#[derive(Clone, Copy)]
+#[derive(Clone, Copy, Debug, PartialEq, Eq)]
 pub enum LookupRefusal {
     // 10 to 19 and 27: the table's own refusal.
     Table(Refusal),
@@ -24,57 +26,53 @@ pub enum LookupRefusal {
     NoRecord,
 }
 
-// What a lookup answers.
-#[derive(Drop)]
-pub enum Answer {
-    // The string of the record that has the key, with the record's number.
-    Found(Text),
-    Refused(LookupRefusal),
+impl From<Refusal> for LookupRefusal {
+    ghost from_gives = { λ why r. r ≡ Table why };
+
+    fn from(why: Refusal) -> LookupRefusal {
+        LookupRefusal::Table(why)
+    }
 }
 
-// What a lookup tells: its answer, and how many records it looked at after its check of the table.
-#[derive(Drop)]
-pub struct LookedUp {
-    pub answer: Answer,
-    pub looked: usize,
-}
+// Document 01's number, and what it carries.
+impl From<LookupRefusal> for Told {
+    ghost from_gives = { λ why told. refusal_of told ≡ said_lookup_refusal why };
 
-impl LookupRefusal {
-    // Document 01's number, and what it carries.
-    pub fn told(self) -> Told
-        ensures { refusal_of result ≡ said_lookup_refusal self }
-    {
-        match self {
-            LookupRefusal::Table(refusal) => refusal.told(),
-            LookupRefusal::NoRecord => Told {
-                number: 20,
-                carried: Carried::Nothing,
-            },
+    fn from(why: LookupRefusal) -> Told {
+        match why {
+            LookupRefusal::Table(refusal) => Told::from(refusal),
+            LookupRefusal::NoRecord => Told::bare(20),
         }
     }
 }
 
-// The string of the record with these four numbers, or the table's refusal, or 20; and how many records were looked at.
-pub fn lookup(table: &[u8], platform: u32, encoding: u32, language: u32, name: u32) -> LookedUp
-    ensures answer { said_lookup result ≡ lookup_of table.now (key_from platform encoding language name) }
-    ensures looked { result.looked ≡ looked_of table.now (key_from platform encoding language name) }
+// What a lookup tells: the string of the record that has the key, with the record's number, and how many records it looked at after its check of the table.
+#[derive(Clone, Copy, Debug, PartialEq, Eq)]
+pub struct LookedUp {
+    pub answer: Result<Text, LookupRefusal>,
+    pub looked: usize,
+}
+
+// The string of the record with this key, or the table's refusal, or 20; and how many records were looked at.
+pub fn lookup(table: &[u8], key: Key<u32>) -> LookedUp
+    ensures answer { said_lookup result ≡ lookup_of table.now (key_in key) }
+    ensures looked { result.looked ≡ looked_of table.now (key_in key) }
 {
-    if let Verdict::Refused(r) = name::check(table) {
+    if let Err(why) = name::check(table) {
         return LookedUp {
-            answer: Answer::Refused(LookupRefusal::Table(r)),
+            answer: Err(LookupRefusal::Table(why)),
             looked: 0,
         };
     }
-    let search = name_search::find_any(table, platform, encoding, language, name);
-    let found = search.found;
+    let search = name_search::find_any(&Accepted { bytes: table }, key);
     let looked = search.looked;
-    match found {
-        Found::Record(i) => LookedUp {
-            answer: Answer::Found(name_search::text_of(table, i)),
+    match search.found {
+        Some(i) => LookedUp {
+            answer: Ok(name_search::text_of(&RecordAt { table, i })),
             looked,
         },
-        Found::Nothing => LookedUp {
-            answer: Answer::Refused(LookupRefusal::NoRecord),
+        None => LookedUp {
+            answer: Err(LookupRefusal::NoRecord),
             looked,
         },
     }

@@ -1,10 +1,11 @@
 -- What a search found, written out: by computing.
 -- Assumes nothing.
+use Prim.Native.Nat.{ℕ}
 use mathlib.Core.Path.{◌≡◌, refl}
 use mathlib.Core.Option.{none, some}
 use mathlib.Core.List.{[], ◌∷◌, map}
-use Rattle.name_search.specs.declared.Found.TheVariants.{Record, Nothing}
-use Rattle.name_search.specs.Searches.{found_of}
+use Rattle.std.specs.Prelude.{Some, None}
+use Rattle.outcomes.specs.Outcomes.{option_of}
 
-pub found_says : map found_of (Record 0 ∷ Record 5459 ∷ Nothing ∷ []) ≡ some 0 ∷ some 5459 ∷ none ∷ []
+pub found_says : map (option_of {A = ℕ}) (Some 0 ∷ Some 5459 ∷ None ∷ []) ≡ some 0 ∷ some 5459 ∷ none ∷ []
 found_says = refl

@@ -1,14 +1,12 @@
 -- Which record of a table has a key, as a search and as a proposition; how many records a search looks at; and the string of a record, as a value and as a proposition.
 use Rattle.std.specs.Prelude.{ℕ, ◌+◌, ◌≤◌, ◌<◌, ◌≡◌, List, length, take, drop}
-use Rattle.std.proofs.Math.Option.{Option, none, some}
+use Rattle.std.proofs.Math.Option.{Option}
 use Rattle.bigendian.specs.Numbers.{Bytes}
 use Rattle.outcomes.specs.Firsts.{when, first_among}
 use Rattle.name_layout.specs.Layout.{count, storage, text_at, string_start, string_length, bytes_of}
 use Rattle.name_layout.specs.Keys.{Key, key_of, same}
 use Rattle.name.specs.Acceptable.{Acceptable}
 use Rattle.name_search.specs.Steps.{looks_among}
-use Rattle.name_search.specs.declared.Found.{Found}
-use Rattle.name_search.specs.declared.Found.TheVariants.{Record, Nothing}
 use Rattle.name_search.specs.declared.Text.{Text}
 
 -- record i has the key
@@ -23,11 +21,6 @@ AtMostOne = (t : List ℕ) → Bytes t → Acceptable t → (k : Key) (i j : ℕ
 -- the record that has the key, if there is one
 unfoldable pub record_with : List ℕ → Key → Option ℕ
 record_with t k = first_among (λ i. when (same (key_of t i) k) i) (count t)
-
--- what a search found
-abbrev pub found_of : Found → Option ℕ
-found_of (Record i) = some i
-found_of Nothing = none
 
 -- document 02, Ask 8: how many of a table's records a search for the key looks at
 unfoldable pub looks_for : List ℕ → Key → ℕ

@@ -2,109 +2,125 @@
 // Document 01, "The 'name' layout", and document 02, Asks 4 and 8. It relies on the table's check: the records of an accepted table are in the order of their keys.
 #![tactic(auto)]
 
-ghost use Rattle.std.specs.Prelude.{◌≡◌, ◌+◌, ◌≤◌, length};
-ghost use Rattle.std.proofs.Math.Option.{none};
-ghost use Rattle.name_layout.specs.Layout.{record_at};
-ghost use Rattle.name_layout.specs.Keys.{key_from, packed};
+ghost use Rattle.std.specs.Prelude.{◌≡◌, ◌+◌, ◌≤◌, ◌<◌, false, length};
+ghost use Rattle.name_layout.specs.Layout.{count, bytes_of};
+ghost use Rattle.name_layout.specs.Keys.{key_in};
 ghost use Rattle.name.specs.Acceptable.{Acceptable};
-ghost use Rattle.name.specs.Acceptance.{faults};
-ghost use Rattle.name_search.specs.Searches.{found_of, record_with, looks_for, text_of};
+ghost use Rattle.outcomes.specs.Outcomes.{option_of};
+ghost use Rattle.name_search.specs.Searches.{record_with, looks_for, text_of};
 ghost use Rattle.name_search.specs.Seeking.{beyond, last_before, sought_by, record_sought, looks_sought};
 
-// What a search found.
-#[derive(Drop)]
-pub enum Found {
-    // The record that has the key.
-    Record(usize),
-    // No record has it.
-    Nothing,
-}
+use name::Accepted;
+use name_layout::{Key, RecordAt, Table};
 
-// What a search tells: what it found, and how many records it looked at.
-#[derive(Drop)]
+// What a search tells: the record that has the key, if there is one, and how many records it looked at.
+#[derive(Clone, Copy, Debug, PartialEq, Eq)]
 pub struct Search {
-    pub found: Found,
+    pub found: Option<usize>,
     pub looked: usize,
 }
 
 // A record's string: its start, from the table's first byte, its length, and the record's number.
-#[derive(Drop)]
+#[derive(Clone, Copy, Debug, PartialEq, Eq)]
 pub struct Text {
     pub start: usize,
     pub len: usize,
     pub record: usize,
 }
 
-// The record of an accepted table with these four numbers, and how many records a search for it looks at.
-pub fn find(table: &[u8], platform: u16, encoding: u16, language: u16, name: u16) -> Search
-    requires { faults table.now ≡ none }
-    ensures found { found_of result.found ≡ record_with table.now (key_from platform encoding language name) }
-    ensures looked { result.looked ≡ looks_for table.now (key_from platform encoding language name) }
+// The record of an accepted table with this key, and how many records a search for it looks at.
+pub fn find(table: &Accepted<'_>, key: Key<u16>) -> Search
+    ensures found { option_of result.found ≡ record_with table.now.bytes.now (key_in key) }
+    ensures looked { result.looked ≡ looks_for table.now.bytes.now (key_in key) }
 {
-    let number = name_layout::key_number(platform, encoding, language, name);
-    halving(table, number, true)
+    halving(table.bytes, key.number(), true)
 }
 
-// The same of any four numbers: a part above 65,535 is in no record.
-pub fn find_any(table: &[u8], platform: u32, encoding: u32, language: u32, name: u32) -> Search
-    requires { faults table.now ≡ none }
-    ensures found { found_of result.found ≡ record_with table.now (key_from platform encoding language name) }
-    ensures looked { result.looked ≡ looks_for table.now (key_from platform encoding language name) }
+// The same of a key of any four numbers: a part above 65,535 is in no record.
+pub fn find_any(table: &Accepted<'_>, key: Key<u32>) -> Search
+    ensures found { option_of result.found ≡ record_with table.now.bytes.now (key_in key) }
+    ensures looked { result.looked ≡ looks_for table.now.bytes.now (key_in key) }
 {
-    if is_beyond(platform, encoding, language, name) {
-        let number = last_before(platform, encoding, language);
-        return halving(table, number, false);
+    if is_beyond(key) {
+        return halving(table.bytes, last_before(key).number(), false);
     }
-    let number = name_layout::key_number(
-        platform as u16,
-        encoding as u16,
-        language as u16,
-        name as u16,
-    );
-    halving(table, number, true)
+    find(table, narrow(key))
 }
 
-// Whether one of them is no part of a record's key.
-fn is_beyond(platform: u32, encoding: u32, language: u32, name: u32) -> bool
-    ensures { result ≡ beyond (key_from platform encoding language name) }
+// Whether one of the four is no part of a record's key.
+fn is_beyond(key: Key<u32>) -> bool
+    ensures { result ≡ beyond (key_in key) }
 {
-    (65535 < platform) | (65535 < encoding) | (65535 < language) | (65535 < name)
+    (65535 < key.platform) | (65535 < key.encoding) | (65535 < key.language) | (65535 < key.name)
 }
 
-// The number of the last key of 16-bit numbers before one of which a part is above 65,535: from the first such part on, each is 65,535.
-fn last_before(platform: u32, encoding: u32, language: u32) -> u64
-    ensures { result ≡ packed (last_before platform encoding language) }
+// A key of which no part is above 65,535, as a record has it. (No `TryFrom`: the struct is another crate's, and it is asked of a key that was just tested.)
+fn narrow(key: Key<u32>) -> Key<u16>
+    requires { beyond (key_in key) ≡ false }
+    ensures { key_in result ≡ key_in key }
 {
-    if 65535 < platform {
-        return name_layout::key_number(65535, 65535, 65535, 65535);
+    Key {
+        platform: key.platform as u16,
+        encoding: key.encoding as u16,
+        language: key.language as u16,
+        name: key.name as u16,
     }
-    if 65535 < encoding {
-        return name_layout::key_number(platform as u16, 65535, 65535, 65535);
+}
+
+// The last key of all that have 16-bit numbers.
+const LAST: Key<u16> = Key {
+    platform: 65535,
+    encoding: 65535,
+    language: 65535,
+    name: 65535,
+};
+
+// The last key of 16-bit numbers before one of which a part is above 65,535: from the first such part on, each is 65,535.
+fn last_before(key: Key<u32>) -> Key<u16>
+    ensures { key_in result ≡ last_before key.platform key.encoding key.language }
+{
+    if 65535 < key.platform {
+        return LAST;
     }
-    if 65535 < language {
-        return name_layout::key_number(platform as u16, encoding as u16, 65535, 65535);
+    let platform = key.platform as u16;
+    if 65535 < key.encoding {
+        return Key { platform, ..LAST };
     }
-    name_layout::key_number(platform as u16, encoding as u16, language as u16, 65535)
+    let encoding = key.encoding as u16;
+    if 65535 < key.language {
+        return Key {
+            platform,
+            encoding,
+            ..LAST
+        };
+    }
+    let language = key.language as u16;
+    Key {
+        platform,
+        encoding,
+        language,
+        ..LAST
+    }
 }
 
 // The record of an accepted table whose key has this number and, where it is not exact, none: what is sought then stands behind that key and before the next.
 // And how many records that looks at, by halving: between `low`, included, and `high`, excluded, it looks at half their sum, rounded down, until it finds the
-// key or the two meet.
+// key or the two meet. The records are bytes of the table and no slice, so that no library's search goes through them, and it counts the looks.
 fn halving(table: &[u8], number: u64, exact: bool) -> Search
     requires { Acceptable table.now }
-    ensures found { found_of result.found ≡ record_sought table.now (sought_by number exact) }
+    ensures found { option_of result.found ≡ record_sought table.now (sought_by number exact) }
     ensures looked { result.looked ≡ looks_sought table.now (sought_by number exact) }
 {
     let mut low = 0;
-    let mut high = name_layout::record_count(table) as usize;
+    let mut high = Table { bytes: table }.record_count() as usize;
     let mut looked = 0;
     while low < high {
         let mid = (low + high) / 2;
-        let here = name_layout::key_at(table, mid);
+        let here = RecordAt { table, i: mid }.key();
         looked += 1;
         if (here == number) & exact {
             return Search {
-                found: Found::Record(mid),
+                found: Some(mid),
                 looked,
             };
         }
@@ -115,20 +131,33 @@ fn halving(table: &[u8], number: u64, exact: bool) -> Search
         }
     }
     Search {
-        found: Found::Nothing,
+        found: None,
         looked,
     }
 }
 
-// The string of record i, with the record's number.
-pub fn text_of(table: &[u8], i: usize) -> Text
-    requires { record_at i + 12 ≤ length table.now }
-    ensures { result ≡ text_of table.now i }
+// The string of a record, with the record's number.
+pub fn text_of(here: &RecordAt<'_>) -> Text
+    ensures { result ≡ text_of here.now.table.now here.now.i }
 {
-    let at = name_layout::text_at(table, i);
+    let at = here.text_at();
+    let table = Table { bytes: here.table };
     Text {
-        start: name_layout::string_start(table, at),
-        len: name_layout::string_length(table, at) as usize,
-        record: i,
+        start: table.string_start(at),
+        len: name_layout::string_length(table.bytes, at) as usize,
+        record: here.i,
     }
+}
+
+// The bytes of that string, of a record of an accepted table.
+pub fn string_of<'a>(table: &Accepted<'a>, i: usize) -> &'a [u8]
+    requires { i < count table.now.bytes.now }
+    ensures { result.now ≡ bytes_of table.now.bytes.now i }
+{
+    let text = text_of(&RecordAt {
+        table: table.bytes,
+        i,
+    });
+    let end = text.start + text.len;
+    &table.bytes[text.start..end]
 }

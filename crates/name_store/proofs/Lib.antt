@@ -1,11 +1,9 @@
 pub mod Bounds
 pub mod Exactly
+pub mod Faults
 pub mod Laid
 pub mod Numbers
 pub mod Right
 pub mod Same
-pub mod SweepChecks
-pub mod SweepWrites
-pub mod Sweeps
-pub mod Turns
+pub mod Stores
 pub mod Worked

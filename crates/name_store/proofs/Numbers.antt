@@ -3,10 +3,10 @@
 use mathlib.Core.Path.{◌≡◌, refl}
 use mathlib.Core.Option.{none, some}
 use mathlib.Core.List.{List, [], ◌∷◌, map}
+use Rattle.std.specs.Prelude.{Ok, Err}
 use Rattle.outcomes.specs.Outcomes.{refused, answered}
 use Rattle.name_store.specs.declared.WriteRefusal.{WriteRefusal}
 use Rattle.name_store.specs.declared.WriteRefusal.TheVariants.{TooMany, PastPool, LanguageRefused, KeyBelow, KeyEqual, TooFar, NoRoom}
-use Rattle.name_store.specs.declared.Written.TheVariants.{Size, Refused}
 use Rattle.name_store.specs.Replies.{said_refusal, said_written}
 
 abbrev refusals : List WriteRefusal
@@ -18,5 +18,5 @@ numbers = refl
 pub carries : map (λ r. (said_refusal r).carried) refusals ≡ none ∷ some 21 ∷ some 22 ∷ some 23 ∷ some 24 ∷ some 25 ∷ none ∷ []
 carries = refl
 
-pub answers_say : map said_written (Size 48 ∷ Refused (TooFar 2) ∷ []) ≡ answered 48 ∷ refused 32 (some 2) ∷ []
+pub answers_say : map said_written (Ok 48 ∷ Err (TooFar 2) ∷ []) ≡ answered 48 ∷ refused 32 (some 2) ∷ []
 answers_say = refl

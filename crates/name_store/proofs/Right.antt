@@ -29,6 +29,9 @@ unrefused es p r e =
     let b = (then_none _ _).0 a.1 in
     (sound_below es p ((not_many es).0 a.0) (length es) ((first_all _ _).0 b.0), (enough es r).0 ((when_none _ _).0 b.1))
 
+held_at : {o : Option Refusal} {x : Refusal} (held written : List ℕ) → o ≡ some x → room_with o held written ≡ held
+held_at held written e = ap (λ (o : Option Refusal). room_with o held written) e
+
 module _ (es : List Entry) (pool room : List ℕ) where
   abbrev order : Option Refusal
   order = unwritten es (length pool) (length room)
@@ -40,14 +43,14 @@ module _ (es : List Entry) (pool room : List ℕ) where
 
   room_held : (x : Refusal) → order ≡ some x → room_after es pool room ≡ room
   unfolding room_after
-  room_held x e = ap (λ (o : Option Refusal). room_with o room (table_of pool es ++ drop (size_for es) room)) e
+  room_held x e = held_at room _ e
 
   untouched : (n : ℕ) (c : Option ℕ) → write_of es (length pool) (length room) ≡ refused n c → room_after es pool room ≡ room
   unfolding write_of
   untouched n c e = room_held _ ((unless_refused _ (size_for es) n c).0 e)
 
   module _ (e : order ≡ none) where
-    room_is : room_after es pool room ≡ table_of pool es ++ drop (size_for es) room
+    pub room_is : room_after es pool room ≡ table_of pool es ++ drop (size_for es) room
     unfolding room_after
     room_is = ap (λ (o : Option Refusal). room_with o room (table_of pool es ++ drop (size_for es) room)) e
 

@@ -4,5 +4,5 @@ pub mod Writing
 pub mod WriteSettled
 pub mod Promises
 pub mod Replies
-pub mod Sweeps
+pub mod Faults
 pub mod Examples

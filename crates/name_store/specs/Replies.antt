@@ -1,10 +1,9 @@
 -- The enums of the code in document 02's numbers, case by case.
-use Rattle.std.specs.Prelude.{ℕ}
-use Rattle.outcomes.specs.Outcomes.{Refusal, bare, carrying, Outcome, answered, refusing}
+use Rattle.std.specs.Prelude.{ℕ, Result}
+use Rattle.std.proofs.Math.Option.{Option}
+use Rattle.outcomes.specs.Outcomes.{Refusal, bare, carrying, Outcome, outcome_of, error_of}
 use Rattle.name_store.specs.declared.WriteRefusal.{WriteRefusal}
 use Rattle.name_store.specs.declared.WriteRefusal.TheVariants.{TooMany, PastPool, LanguageRefused, KeyBelow, KeyEqual, TooFar, NoRoom}
-use Rattle.name_store.specs.declared.Written.{Written}
-use Rattle.name_store.specs.declared.Written.TheVariants.{Size, Refused}
 
 -- a refusal's number, and what it carries
 abbrev pub said_refusal : WriteRefusal → Refusal
@@ -17,6 +16,9 @@ said_refusal (TooFar i) = carrying 32 i
 said_refusal NoRoom = bare 33
 
 -- what came of writing
-abbrev pub said_written : Written → Outcome ℕ
-said_written (Size n) = answered n
-said_written (Refused r) = refusing (said_refusal r)
+abbrev pub said_written : Result ℕ WriteRefusal → Outcome ℕ
+said_written r = outcome_of (λ n. n) said_refusal r
+
+-- the fault of an entry, if it has one
+abbrev pub said_fault : Result ℕ WriteRefusal → Option Refusal
+said_fault r = error_of said_refusal r

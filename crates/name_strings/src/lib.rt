@@ -7,25 +7,22 @@ ghost use Rattle.std.specs.Prelude.{◌≡◌};
 ghost use Rattle.name_answers.specs.Names.{postscript_of, said_name};
 ghost use Rattle.name_answers.specs.Versions.{version_of, said_version};
 
-use name::Verdict;
-pub use name_answers::{PostscriptAnswer, PostscriptRefusal, VersionAnswer, VersionRefusal};
+use name::Accepted;
+pub use name_answers::{PostscriptRefusal, VersionAt, VersionRefusal};
+use name_search::Text;
 
 // The PostScript name of a table: 21, 22, 23, 24 in this order, else the string of the record (1, 0, 0, 6).
-pub fn postscript(table: &[u8]) -> PostscriptAnswer
+pub fn postscript(table: &[u8]) -> Result<Text, PostscriptRefusal>
     ensures { said_name result ≡ postscript_of table.now }
 {
-    match name::check(table) {
-        Verdict::Refused(r) => PostscriptAnswer::Refused(PostscriptRefusal::Table(r)),
-        Verdict::Accepted => name_answers::accepted_postscript(table),
-    }
+    name::check(table)?;
+    name_answers::accepted_postscript(&Accepted { bytes: table })
 }
 
 // The version number of a table, from the record (3, 1, 0x409, 5); only if that is not there, from (1, 0, 0, 5).
-pub fn version(table: &[u8]) -> VersionAnswer
+pub fn version(table: &[u8]) -> Result<VersionAt, VersionRefusal>
     ensures { said_version result ≡ version_of table.now }
 {
-    match name::check(table) {
-        Verdict::Refused(r) => VersionAnswer::Refused(VersionRefusal::Table(r)),
-        Verdict::Accepted => name_answers::accepted_version(table),
-    }
+    name::check(table)?;
+    name_answers::accepted_version(&Accepted { bytes: table })
 }

@@ -2,13 +2,21 @@
 // Document 01, refusals 10 to 18, and document 02, Ask 3, 19 and 27, one by one. It relies on the table's layout; its callers show that the bytes are there.
 #![tactic(auto)]
 
-ghost use Rattle.std.specs.Prelude.{◌≡◌, ◌||◌, ◌+◌, ◌≤◌, ◌<◌, length};
-ghost use Rattle.name_layout.specs.Layout.{count, record_at};
+ghost use Rattle.std.specs.Prelude.{◌≡◌, ◌||◌, ◌+◌, ◌-◌, ◌≤◌, ◌<◌, length};
+ghost use Rattle.name_layout.specs.Layout.{count};
+ghost use Rattle.name_layout.specs.Keys.{key_of, packed};
 ghost use Rattle.name_tests.specs.Tests.{is_too_short, in_other_format, records_pass_end, tags_pass_end, misplaced};
 ghost use Rattle.name_tests.specs.Tests.{string_passes, starts_beyond, forbidden, is_language_refused, below_before, equals_before};
 ghost use Rattle.name_tests.specs.Steps.{Framed};
 
-use name_layout::{format_number, key_at, storage_start, tag_count};
+use name_layout::{RecordAt, Table};
+
+// A table that its records and tags lie within.
+#[derive(Clone, Copy)]
+pub struct Framed<'a> {
+    pub table: Table<'a>,
+    ghost framed: { Framed table.bytes.now },
+}
 
 // Whether the table ends before its three first numbers do.
 pub fn too_short(table: &[u8]) -> bool
@@ -18,64 +26,65 @@ pub fn too_short(table: &[u8]) -> bool
 }
 
 // Whether the format is neither 0 nor 1.
-pub fn other_format(table: &[u8]) -> bool
-    requires { 6 ≤ length table.now }
-    ensures { result ≡ in_other_format table.now }
+pub fn other_format(table: &Table<'_>) -> bool
+    ensures { result ≡ in_other_format table.now.bytes.now }
 {
-    1 < format_number(table)
+    1 < table.format_number()
 }
 
 // Whether the name records pass the table's end.
-pub fn records_pass(table: &[u8]) -> bool
-    requires { 6 ≤ length table.now }
-    ensures { result ≡ records_pass_end table.now }
+pub fn records_pass(table: &Table<'_>) -> bool
+    ensures { result ≡ records_pass_end table.now.bytes.now }
 {
-    table.len() < name_layout::records_end(table)
+    table.bytes.len() < table.records_end()
 }
 
 // Whether the tag count or the tags pass the table's end.
-pub fn tags_pass(table: &[u8]) -> bool
-    requires { 6 ≤ length table.now }
-    ensures { result ≡ tags_pass_end table.now }
+pub fn tags_pass(table: &Table<'_>) -> bool
+    ensures { result ≡ tags_pass_end table.now.bytes.now }
 {
-    table.len() < name_layout::tags_start(table) || table.len() < name_layout::tags_end(table)
+    table.bytes.len() < table.tags_start() || table.bytes.len() < table.tags_end()
 }
 
 // Whether the storage starts among the records and tags, or past the table's end.
-pub fn storage_misplaced(table: &[u8]) -> bool
-    requires { Framed table.now }
-    ensures { result ≡ misplaced table.now }
+pub fn storage_misplaced(framed: &Framed<'_>) -> bool
+    ensures { result ≡ misplaced framed.now.table.bytes.now }
 {
-    let start = storage_start(table) as usize;
-    start < name_layout::tags_end(table) || table.len() < start
+    let start = framed.table.storage_start() as usize;
+    start < framed.table.tags_end() || framed.table.bytes.len() < start
 }
 
 // Whether the string of the length and offset at a place passes the table's end.
-pub fn string_passes(table: &[u8], at: usize) -> bool
-    requires { (6 ≤ length table.now) × (at + 4 ≤ length table.now) }
-    ensures { result ≡ string_passes table.now at }
+pub fn string_passes(table: &Table<'_>, at: usize) -> bool
+    requires { at + 4 ≤ length table.now.bytes.now }
+    ensures { result ≡ string_passes table.now.bytes.now at }
 {
-    let start = name_layout::string_start(table, at);
-    table.len() < start + name_layout::string_length(table, at) as usize
+    let start = table.string_start(at);
+    table.bytes.len() < start + name_layout::string_length(table.bytes, at) as usize
 }
 
 // Whether it starts beyond the table's end.
-pub fn starts_beyond(table: &[u8], at: usize) -> bool
-    requires { (6 ≤ length table.now) × (at + 4 ≤ length table.now) }
-    ensures { result ≡ starts_beyond table.now at }
+pub fn starts_beyond(table: &Table<'_>, at: usize) -> bool
+    requires { at + 4 ≤ length table.now.bytes.now }
+    ensures { result ≡ starts_beyond table.now.bytes.now at }
 {
-    table.len() < name_layout::string_start(table, at)
+    table.bytes.len() < table.string_start(at)
 }
 
 // Whether the language number of record i is not allowed.
-pub fn language_refused(table: &[u8], i: usize) -> bool
-    requires { Framed table.now × (i < count table.now) }
-    ensures { result ≡ is_language_refused table.now i }
+pub fn language_refused(framed: &Framed<'_>, i: usize) -> bool
+    requires { i < count framed.now.table.bytes.now }
+    ensures { result ≡ is_language_refused framed.now.table.bytes.now i }
 {
-    let here = name_layout::record_at(table, i);
+    let table = framed.table;
+    let at = RecordAt {
+        table: table.bytes,
+        i,
+    };
+    let here = at.record();
     forbidden(
-        format_number(table),
-        tag_count(table),
+        table.format_number(),
+        table.tag_count(),
         here.platform,
         here.language,
     )
@@ -94,18 +103,28 @@ pub fn forbidden(format: u16, tags: u16, platform: u16, language: u16) -> bool
     0x8000 + tags as u32 <= language as u32
 }
 
-// Whether the key of record i is not above that of the record before it: below it, or equal to it.
-pub fn not_above(table: &[u8], i: usize) -> bool
-    requires { record_at i + 12 ≤ length table.now }
-    ensures { result ≡ (below_before table.now i || equals_before table.now i) }
+// Whether a record's key is not above that of the record before it: below it, or equal to it.
+pub fn not_above(here: &RecordAt<'_>) -> bool
+    ensures { result ≡ (below_before here.now.table.now here.now.i || equals_before here.now.table.now here.now.i) }
 {
-    0 < i && key_at(table, i) <= key_at(table, i - 1)
+    0 < here.i && here.key() <= key_before(here)
 }
 
-// Whether the key of record i is equal to that of the record before it.
-pub fn equals_before(table: &[u8], i: usize) -> bool
-    requires { record_at i + 12 ≤ length table.now }
-    ensures { result ≡ equals_before table.now i }
+// Whether a record's key is equal to that of the record before it.
+pub fn equals_before(here: &RecordAt<'_>) -> bool
+    ensures { result ≡ equals_before here.now.table.now here.now.i }
 {
-    0 < i && key_at(table, i) == key_at(table, i - 1)
+    0 < here.i && here.key() == key_before(here)
+}
+
+// The key of the record before one that is not the first.
+fn key_before(here: &RecordAt<'_>) -> u64
+    requires { 0 < here.now.i }
+    ensures { result ≡ packed (key_of here.now.table.now (here.now.i - 1)) }
+{
+    RecordAt {
+        table: here.table,
+        i: here.i - 1,
+    }
+    .key()
 }

@@ -5,21 +5,19 @@
 #![tactic(auto)]
 
 ghost use Rattle.std.specs.Prelude.{◌≡◌};
-ghost use Rattle.name.specs.Refusals.{said_check};
 ghost use Rattle.name_lookup.specs.Answers.{said_lookup};
 ghost use Rattle.name_answers.specs.Names.{said_name};
 ghost use Rattle.name_answers.specs.Versions.{said_version};
-ghost use Rattle.refusal_words.specs.Words.{outcome_refusal};
 ghost use Rattle.name_words.specs.Words.{found_words, text_words, version_words};
 
-use name::Verdict;
-use name_answers::{PostscriptAnswer, VersionAnswer};
-use name_lookup::{Answer, LookedUp};
-use refusal_words::{GvRefusal, NO_REFUSAL, told_words};
+use name_answers::{PostscriptRefusal, VersionAt, VersionRefusal};
+use name_lookup::{LookedUp, Text};
+use outcomes::Told;
+use refusal_words::{GvRefusal, NO_REFUSAL};
 
 // The answer of a lookup: the string's start and length, the number of its record, and how many records were looked at, found or not.
 #[repr(C)]
-#[derive(Drop)]
+#[derive(Clone, Copy, Debug, PartialEq, Eq)]
 pub struct GvFound {
     pub refusal: GvRefusal,
     pub start: usize,
@@ -28,6 +26,7 @@ pub struct GvFound {
     pub looked: usize,
 }
 
+// `new`, here and below: a proof can hardly rewrite a struct that is made of what a call gives.
 impl GvFound {
     fn new(refusal: GvRefusal, start: usize, len: usize, number: usize, looked: usize) -> GvFound
         ensures { result ≡ record { refusal = refusal; start = start; length = len; «record» = number; looked = looked } }
@@ -44,7 +43,7 @@ impl GvFound {
 
 // The answer of the PostScript question: the string's start and length, and the number of its record.
 #[repr(C)]
-#[derive(Drop)]
+#[derive(Clone, Copy, Debug, PartialEq, Eq)]
 pub struct GvText {
     pub refusal: GvRefusal,
     pub start: usize,
@@ -67,7 +66,7 @@ impl GvText {
 
 // The answer of the version question: the figures before and after the period, and the number of the record whose string they stand in.
 #[repr(C)]
-#[derive(Drop)]
+#[derive(Clone, Copy, Debug, PartialEq, Eq)]
 pub struct GvVersion {
     pub refusal: GvRefusal,
     pub major: u32,
@@ -88,48 +87,37 @@ impl GvVersion {
     }
 }
 
-// What the check says.
-pub fn verdict_words(verdict: Verdict) -> GvRefusal
-    ensures { result ≡ outcome_refusal (said_check verdict) }
-{
-    match verdict {
-        Verdict::Accepted => NO_REFUSAL,
-        Verdict::Refused(why) => told_words(why.told()),
-    }
-}
-
 // What a lookup says.
 pub fn found_words(found: LookedUp) -> GvFound
     ensures { result ≡ found_words (said_lookup found) found.looked }
 {
-    let answer = found.answer;
-    let looked = found.looked;
-    match answer {
-        Answer::Found(text) => GvFound::new(NO_REFUSAL, text.start, text.len, text.record, looked),
-        Answer::Refused(why) => GvFound::new(told_words(why.told()), 0, 0, 0, looked),
+    match found.answer {
+        Ok(text) => GvFound::new(NO_REFUSAL, text.start, text.len, text.record, found.looked),
+        Err(why) => GvFound::new(GvRefusal::from(Told::from(why)), 0, 0, 0, found.looked),
     }
 }
 
 // What the PostScript question says.
-pub fn named_words(answer: PostscriptAnswer) -> GvText
+pub fn named_words(answer: Result<Text, PostscriptRefusal>) -> GvText
     ensures { result ≡ text_words (said_name answer) }
 {
     match answer {
-        PostscriptAnswer::Name(text) => GvText::new(NO_REFUSAL, text.start, text.len, text.record),
-        PostscriptAnswer::Refused(why) => GvText::new(told_words(why.told()), 0, 0, 0),
+        Ok(text) => GvText::new(NO_REFUSAL, text.start, text.len, text.record),
+        Err(why) => GvText::new(GvRefusal::from(Told::from(why)), 0, 0, 0),
     }
 }
 
 // What the version question says.
-pub fn version_words(answer: VersionAnswer) -> GvVersion
+pub fn version_words(answer: Result<VersionAt, VersionRefusal>) -> GvVersion
     ensures { result ≡ version_words (said_version answer) }
 {
     match answer {
-        VersionAnswer::Number {
-            major,
-            minor,
-            record,
-        } => GvVersion::new(NO_REFUSAL, major as u32, minor as u32, record),
-        VersionAnswer::Refused(why) => GvVersion::new(told_words(why.told()), 0, 0, 0),
+        Ok(version) => GvVersion::new(
+            NO_REFUSAL,
+            version.major as u32,
+            version.minor as u32,
+            version.record,
+        ),
+        Err(why) => GvVersion::new(GvRefusal::from(Told::from(why)), 0, 0, 0),
     }
 }

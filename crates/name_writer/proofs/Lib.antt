@@ -4,3 +4,7 @@ pub mod Locals
 pub mod Reading
 pub mod Refusing
 pub mod Rewriting
+pub mod SweepChecks
+pub mod SweepWrites
+pub mod Sweeps
+pub mod Turns

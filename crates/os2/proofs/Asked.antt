@@ -11,7 +11,8 @@ use Rattle.outcomes.specs.Outcomes.{Refusal, bare, refused, answered, unless}
 use Rattle.outcomes.proofs.Laws.{then_none, passed, unless_answered, unless_refused}
 use Rattle.level.specs.Levels.{newest, number_of, level_of}
 use Rattle.level.specs.declared.Level.{Level}
-use Rattle.level.specs.declared.LevelAnswer.TheVariants.{Known, Refused}
+use Rattle.level.specs.declared.LevelAbove.{LevelAbove}
+use Rattle.std.specs.Prelude.{Ok, Err}
 use Rattle.level.proofs.Laws.{known, refused as level_refused}
 use Rattle.os2_acceptance.specs.Acceptance.{judged}
 use Rattle.os2_questions.specs.declared.Question.{Question}
@@ -30,11 +31,11 @@ module _ (o : Option Refusal) (L l : ℕ) (e : answered l ≡ unless o (answered
 
 module _ (L : ℕ) (q : Question) where
   -- a number above 5, and else the question's own refusal
-  pub before_above : level_of L ≡ Refused → refused 1 none ≡ unless (before_table L q) (answered L)
+  pub before_above : (r : LevelAbove) → level_of L ≡ Err r → refused 1 none ≡ unless (before_table L q) (answered L)
   unfolding before_table unless when ◌then◌
-  before_above e = rw (lt-ltb newest L (level_refused L e))
+  before_above r e = rw (lt-ltb newest L (level_refused L r e))
 
-  pub before_known : {l : Level} {o : Option Refusal} → level_of L ≡ Known l → o ≡ own_refusal q →
+  pub before_known : {l : Level} {o : Option Refusal} → level_of L ≡ Ok l → o ≡ own_refusal q →
       unless o (answered (number_of l)) ≡ unless (before_table L q) (answered L)
   unfolding before_table when ◌then◌
   before_known {l} e d = let k = known L l e in rw (k.1, le-ltb newest L k.0, d)

@@ -4,19 +4,13 @@ use mathlib.Core.Path.{◌≡◌, refl}
 use mathlib.Core.Option.{none, some}
 use mathlib.Core.List.{List, [], ◌∷◌, map}
 use Rattle.outcomes.specs.Outcomes.{refused, answered}
+use Rattle.std.specs.Prelude.{Ok, Err}
+use Rattle.os2_rules.specs.declared.BrokenRule.TheVariants.{Regular}
 use Rattle.level.specs.declared.Level.TheVariants.{Four}
 use Rattle.os2_acceptance.specs.declared.Refusal.TheVariants.{LevelAbove, TooShort, RuleBroken, NoField, NoBit}
 use Rattle.os2_questions.specs.declared.Question.TheVariants.{Field, SelectionBit, UnicodeBit, CodePageBit, Rights, StylePosition, OpticalSizes}
 use Rattle.os2_answers.specs.declared.Answer.TheVariants as Answer·
-use Rattle.os2_answers.specs.declared.RightsAnswer.TheVariants as RightsAnswer·
-use Rattle.os2_answers.specs.declared.StyleAnswer.TheVariants as StyleAnswer·
-use Rattle.os2_answers.specs.declared.OpticalAnswer.TheVariants as OpticalAnswer·
 use Rattle.os2_answers.specs.Values.{absent, not_known}
-use Rattle.os2.specs.declared.Opening.TheVariants as Opening·
-use Rattle.os2.specs.declared.Reply.TheVariants as Reply·
-use Rattle.os2.specs.declared.RightsReply.TheVariants as RightsReply·
-use Rattle.os2.specs.declared.StyleReply.TheVariants as StyleReply·
-use Rattle.os2.specs.declared.OpticalReply.TheVariants as OpticalReply·
 use Rattle.os2.specs.declared.AnyReply.{AnyReply}
 use Rattle.os2.specs.declared.AnyReply.TheVariants as AnyReply·
 use Rattle.os2.specs.Replies.{said_opening, of_number, of_rights, of_style, of_optical, kind_of, said_any_reply}
@@ -25,23 +19,23 @@ pub kinds : map kind_of (Field 47 ∷ SelectionBit 9 ∷ UnicodeBit 127 ∷ Code
     ≡ of_number ∷ of_number ∷ of_number ∷ of_number ∷ of_rights ∷ of_style ∷ of_optical ∷ []
 kinds = refl
 
-pub openings : map said_opening (Opening·.Known Four ∷ Opening·.Refused NoBit ∷ []) ≡ answered 4 ∷ refused 7 none ∷ []
+pub openings : map said_opening (Ok Four ∷ Err NoBit ∷ []) ≡ answered 4 ∷ refused 7 none ∷ []
 openings = refl
 
 -- an answer and a refusal of each kind
 abbrev answers : List AnyReply
 answers =
-    AnyReply·.Number (Reply·.Answered Answer·.Absent)
-    ∷ AnyReply·.Rights (RightsReply·.Answered RightsAnswer·.NotKnown)
-    ∷ AnyReply·.Style (StyleReply·.Answered StyleAnswer·.NotKnown)
-    ∷ AnyReply·.Optical (OpticalReply·.Answered OpticalAnswer·.Absent) ∷ []
+    AnyReply·.Number (Ok Answer·.Absent)
+    ∷ AnyReply·.Rights (Ok Answer·.NotKnown)
+    ∷ AnyReply·.Style (Ok Answer·.NotKnown)
+    ∷ AnyReply·.Optical (Ok Answer·.Absent) ∷ []
 
 abbrev refusals : List AnyReply
 refusals =
-    AnyReply·.Number (Reply·.Refused NoField)
-    ∷ AnyReply·.Rights (RightsReply·.Refused LevelAbove)
-    ∷ AnyReply·.Style (StyleReply·.Refused TooShort)
-    ∷ AnyReply·.Optical (OpticalReply·.Refused (RuleBroken 6)) ∷ []
+    AnyReply·.Number (Err NoField)
+    ∷ AnyReply·.Rights (Err LevelAbove)
+    ∷ AnyReply·.Style (Err TooShort)
+    ∷ AnyReply·.Optical (Err (RuleBroken Regular)) ∷ []
 
 pub answers_say : map said_any_reply answers
     ≡ (of_number, answered absent) ∷ (of_rights, answered not_known) ∷ (of_style, answered not_known) ∷ (of_optical, answered absent) ∷ []

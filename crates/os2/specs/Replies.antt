@@ -1,51 +1,37 @@
--- The enums of the surface in document 01's words and numbers, case by case.
-use Rattle.std.specs.Prelude.{ℕ}
-use Rattle.outcomes.specs.Outcomes.{Outcome, refused, answered}
+-- The code's replies in document 01's words and numbers, case by case.
+use Rattle.std.specs.Prelude.{ℕ, ℤ, Result}
+use Rattle.outcomes.specs.Outcomes.{Outcome, outcome_of}
 use Rattle.level.specs.Levels.{number_of}
+use Rattle.level.specs.declared.Level.{Level}
+use Rattle.os2_style.specs.declared.EmbeddingRights.{EmbeddingRights}
+use Rattle.os2_style.specs.declared.StylePosition.{StylePosition as Position}
+use Rattle.os2_style.specs.declared.OpticalSizes.{OpticalSizes as Sizes}
 use Rattle.os2_acceptance.specs.declared.Refusal.{Refusal}
 use Rattle.os2_acceptance.specs.Replies.{said_refusal}
 use Rattle.os2_questions.specs.declared.Question.{Question}
 use Rattle.os2_questions.specs.declared.Question.TheVariants.{Field, SelectionBit, UnicodeBit, CodePageBit, Rights, StylePosition, OpticalSizes}
+use Rattle.os2_answers.specs.declared.Answer.{Answer}
 use Rattle.os2_answers.specs.Values.{Said}
 use Rattle.os2_answers.specs.Replies.{said_answer, said_rights_answer, said_style_answer, said_optical_answer}
-use Rattle.os2.specs.declared.Opening.{Opening}
-use Rattle.os2.specs.declared.Opening.TheVariants as Opening·
-use Rattle.os2.specs.declared.Reply.{Reply}
-use Rattle.os2.specs.declared.Reply.TheVariants as Reply·
-use Rattle.os2.specs.declared.RightsReply.{RightsReply}
-use Rattle.os2.specs.declared.RightsReply.TheVariants as RightsReply·
-use Rattle.os2.specs.declared.StyleReply.{StyleReply}
-use Rattle.os2.specs.declared.StyleReply.TheVariants as StyleReply·
-use Rattle.os2.specs.declared.OpticalReply.{OpticalReply}
-use Rattle.os2.specs.declared.OpticalReply.TheVariants as OpticalReply·
 use Rattle.os2.specs.declared.AnyReply.{AnyReply}
 use Rattle.os2.specs.declared.AnyReply.TheVariants as AnyReply·
 
--- a refusal beside any answer
-abbrev pub said_refused : {A : Type 0} → Refusal → Outcome A
-said_refused r = refused (said_refusal r).number (said_refusal r).carried
-
 -- what comes before an answer: a refusal, or the number of the level to answer at
-abbrev pub said_opening : Opening → Outcome ℕ
-said_opening (Opening·.Known l) = answered (number_of l)
-said_opening (Opening·.Refused r) = said_refused r
+abbrev pub said_opening : Result Level Refusal → Outcome ℕ
+said_opening r = outcome_of number_of said_refusal r
 
 -- the replies: an answer, or a refusal
-abbrev pub said_reply : Reply → Outcome Said
-said_reply (Reply·.Answered a) = answered (said_answer a)
-said_reply (Reply·.Refused r) = said_refused r
+abbrev pub said_reply : Result (Answer ℤ) Refusal → Outcome Said
+said_reply r = outcome_of said_answer said_refusal r
 
-abbrev pub said_rights_reply : RightsReply → Outcome Said
-said_rights_reply (RightsReply·.Answered a) = answered (said_rights_answer a)
-said_rights_reply (RightsReply·.Refused r) = said_refused r
+abbrev pub said_rights_reply : Result (Answer EmbeddingRights) Refusal → Outcome Said
+said_rights_reply r = outcome_of said_rights_answer said_refusal r
 
-abbrev pub said_style_reply : StyleReply → Outcome Said
-said_style_reply (StyleReply·.Answered a) = answered (said_style_answer a)
-said_style_reply (StyleReply·.Refused r) = said_refused r
+abbrev pub said_style_reply : Result (Answer Position) Refusal → Outcome Said
+said_style_reply r = outcome_of said_style_answer said_refusal r
 
-abbrev pub said_optical_reply : OpticalReply → Outcome Said
-said_optical_reply (OpticalReply·.Answered a) = answered (said_optical_answer a)
-said_optical_reply (OpticalReply·.Refused r) = said_refused r
+abbrev pub said_optical_reply : Result (Answer Sizes) Refusal → Outcome Said
+said_optical_reply r = outcome_of said_optical_answer said_refusal r
 
 -- any question: the kind of its reply, and what that says
 pub data Kind : Type 0 where

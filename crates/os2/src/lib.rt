@@ -12,69 +12,34 @@ ghost use Rattle.os2_acceptance.specs.Replies.{said_check};
 ghost use Rattle.os2_answers.specs.Asking.{before_table, ask};
 ghost use Rattle.os2.specs.Replies.{said_opening, said_reply, said_rights_reply, said_style_reply, said_optical_reply, said_any_reply, kind_of};
 
-use level::{Level, LevelAnswer};
-pub use os2_acceptance::{Checked, Refusal};
-pub use os2_answers::{Answer, OpticalAnswer, RightsAnswer, StyleAnswer};
+use level::Level;
+use os2_acceptance::Accepted;
+pub use os2_acceptance::Refusal;
+pub use os2_answers::Answer;
 pub use os2_questions::Question;
+use os2_style::{EmbeddingRights, OpticalSizes, StylePosition};
 
-// An answer on a field or a bit, or the refusal beside it.
-#[derive(Drop)]
-pub enum Reply {
-    Answered(Answer),
-    Refused(Refusal),
-}
+// The reply to a question: its answer, or the refusal.
+pub type Reply<T> = Result<Answer<T>, Refusal>;
 
-// An answer on rights, or the refusal beside it.
-#[derive(Drop)]
-pub enum RightsReply {
-    Answered(RightsAnswer),
-    Refused(Refusal),
-}
-
-// An answer on the style position, or the refusal beside it.
-#[derive(Drop)]
-pub enum StyleReply {
-    Answered(StyleAnswer),
-    Refused(Refusal),
-}
-
-// An answer on optical sizes, or the refusal beside it.
-#[derive(Drop)]
-pub enum OpticalReply {
-    Answered(OpticalAnswer),
-    Refused(Refusal),
-}
-
-// The reply to a question, of its own kind.
-#[derive(Drop)]
+// The reply to any question, of its own kind.
+#[derive(Clone, Copy, Debug, PartialEq)]
 pub enum AnyReply {
-    Number(Reply),
-    Rights(RightsReply),
-    Style(StyleReply),
-    Optical(OpticalReply),
-}
-
-// What comes before an answer: the level to answer at, or a refusal.
-#[derive(Drop)]
-pub enum Opening {
-    Known(Level),
-    Refused(Refusal),
+    Number(Reply<i64>),
+    Rights(Reply<EmbeddingRights>),
+    Style(Reply<StylePosition>),
+    Optical(Reply<OpticalSizes>),
 }
 
 // Whether a level accepts a table.
-pub fn check(table: &[u8], level: u32) -> Checked
+pub fn check(table: &[u8], level: u32) -> Result<(), Refusal>
     ensures { said_check result ≡ checked level table.now }
 {
-    match Level::new(level) {
-        LevelAnswer::Refused => Checked::Refused(Refusal::LevelAbove),
-        LevelAnswer::Known(known) => {
-            if os2_acceptance::surely_accepts(table, known) {
-                Checked::Accepted
-            } else {
-                os2_acceptance::judge(table, known)
-            }
-        }
+    let known = Level::try_from(level)?;
+    if os2_acceptance::surely_accepts(table, known) {
+        return Ok(());
     }
+    os2_acceptance::judge(table, known)
 }
 
 // Any of the seven questions.
@@ -93,113 +58,116 @@ pub fn ask(table: &[u8], level: u32, question: Question) -> AnyReply
 }
 
 // The value of a field, by its number in the catalogue.
-pub fn field(table: &[u8], level: u32, number: u32) -> Reply
+pub fn field(table: &[u8], level: u32, number: u32) -> Reply<i64>
     ensures { said_reply result ≡ ask level table.now (Question.Field number) }
 {
-    match opened(table, level, Question::Field(number)) {
-        Opening::Refused(why) => Reply::Refused(why),
-        Opening::Known(known) => {
-            Reply::Answered(os2_answers::field_answer(table, known, number as usize))
-        }
-    }
+    let known = opened(table, level, Question::Field(number))?;
+    Ok(os2_answers::field_answer(
+        &Accepted {
+            bytes: table,
+            known,
+        },
+        number as usize,
+    ))
 }
 
-// Bit 0 to 9 of fsSelection.
-pub fn selection_bit(table: &[u8], level: u32, number: u32) -> Reply
+// Bit 0 to 9 of fsSelection. (No generic function stands for the seven questions: C calls each by its name.)
+pub fn selection_bit(table: &[u8], level: u32, number: u32) -> Reply<i64>
     ensures { said_reply result ≡ ask level table.now (Question.SelectionBit number) }
 {
-    match opened(table, level, Question::SelectionBit(number)) {
-        Opening::Refused(why) => Reply::Refused(why),
-        Opening::Known(known) => Reply::Answered(os2_answers::selection_answer(
-            table, known, number,
-        )),
-    }
+    let known = opened(table, level, Question::SelectionBit(number))?;
+    Ok(os2_answers::selection_answer(
+        &Accepted {
+            bytes: table,
+            known,
+        },
+        number,
+    ))
 }
 
 // Unicode bit 0 to 127: bit n mod 32 of range n div 32.
-pub fn unicode_bit(table: &[u8], level: u32, number: u32) -> Reply
+pub fn unicode_bit(table: &[u8], level: u32, number: u32) -> Reply<i64>
     ensures { said_reply result ≡ ask level table.now (Question.UnicodeBit number) }
 {
-    match opened(table, level, Question::UnicodeBit(number)) {
-        Opening::Refused(why) => Reply::Refused(why),
-        Opening::Known(known) => Reply::Answered(os2_answers::unicode_answer(table, known, number)),
-    }
+    let known = opened(table, level, Question::UnicodeBit(number))?;
+    Ok(os2_answers::unicode_answer(
+        &Accepted {
+            bytes: table,
+            known,
+        },
+        number,
+    ))
 }
 
 // Code page bit 0 to 63, likewise.
-pub fn code_page_bit(table: &[u8], level: u32, number: u32) -> Reply
+pub fn code_page_bit(table: &[u8], level: u32, number: u32) -> Reply<i64>
     ensures { said_reply result ≡ ask level table.now (Question.CodePageBit number) }
 {
-    match opened(table, level, Question::CodePageBit(number)) {
-        Opening::Refused(why) => Reply::Refused(why),
-        Opening::Known(known) => Reply::Answered(os2_answers::code_page_answer(
-            table, known, number,
-        )),
-    }
+    let known = opened(table, level, Question::CodePageBit(number))?;
+    Ok(os2_answers::code_page_answer(
+        &Accepted {
+            bytes: table,
+            known,
+        },
+        number,
+    ))
 }
 
 // Rights: what fsType allows.
-pub fn rights(table: &[u8], level: u32) -> RightsReply
+pub fn rights(table: &[u8], level: u32) -> Reply<EmbeddingRights>
     ensures { said_rights_reply result ≡ ask level table.now Question.Rights }
 {
-    match opened(table, level, Question::Rights) {
-        Opening::Refused(why) => RightsReply::Refused(why),
-        Opening::Known(known) => RightsReply::Answered(os2_answers::rights_answer(table, known)),
-    }
+    let known = opened(table, level, Question::Rights)?;
+    Ok(os2_answers::rights_answer(&Accepted {
+        bytes: table,
+        known,
+    }))
 }
 
 // The style position: weight and width percent.
-pub fn style_position(table: &[u8], level: u32) -> StyleReply
+pub fn style_position(table: &[u8], level: u32) -> Reply<StylePosition>
     ensures { said_style_reply result ≡ ask level table.now Question.StylePosition }
 {
-    match opened(table, level, Question::StylePosition) {
-        Opening::Refused(why) => StyleReply::Refused(why),
-        Opening::Known(known) => StyleReply::Answered(os2_answers::style_answer(table, known)),
-    }
+    let known = opened(table, level, Question::StylePosition)?;
+    Ok(os2_answers::style_answer(&Accepted {
+        bytes: table,
+        known,
+    }))
 }
 
 // Optical sizes, in points.
-pub fn optical_sizes(table: &[u8], level: u32) -> OpticalReply
+pub fn optical_sizes(table: &[u8], level: u32) -> Reply<OpticalSizes>
     ensures { said_optical_reply result ≡ ask level table.now Question.OpticalSizes }
 {
-    match opened(table, level, Question::OpticalSizes) {
-        Opening::Refused(why) => OpticalReply::Refused(why),
-        Opening::Known(known) => OpticalReply::Answered(os2_answers::optical_answer(table, known)),
-    }
+    let known = opened(table, level, Question::OpticalSizes)?;
+    Ok(os2_answers::optical_answer(&Accepted {
+        bytes: table,
+        known,
+    }))
 }
 
 // What comes before the answer, in two halves: what needs no table, then the table.
-fn opened(table: &[u8], level: u32, question: Question) -> Opening
+fn opened(table: &[u8], level: u32, question: Question) -> Result<Level, Refusal>
     ensures { said_opening result ≡ unless (before_table level question then judged level table.now) (answered level) }
 {
-    match before_table(level, question) {
-        Opening::Refused(why) => Opening::Refused(why),
-        Opening::Known(known) => on_table(table, known),
-    }
+    on_table(table, before_table(level, question)?)
 }
 
-// Refusal 1, then the question's own, 6 or 7.
-pub fn before_table(level: u32, question: Question) -> Opening
+// Refusal 1, then the question's own, 6 or 7; else the level to answer at.
+pub fn before_table(level: u32, question: Question) -> Result<Level, Refusal>
     ensures { said_opening result ≡ unless (before_table level question) (answered level) }
 {
-    let LevelAnswer::Known(known) = Level::new(level) else {
-        return Opening::Refused(Refusal::LevelAbove);
-    };
-    match os2_questions::in_range(question) {
-        Checked::Refused(why) => Opening::Refused(why),
-        Checked::Accepted => Opening::Known(known),
-    }
+    let known = Level::try_from(level)?;
+    os2_questions::in_range(question)?;
+    Ok(known)
 }
 
-// Refusals 2 and 3.
-pub fn on_table(table: &[u8], known: Level) -> Opening
+// Refusals 2 and 3; else the level.
+pub fn on_table(table: &[u8], known: Level) -> Result<Level, Refusal>
     ensures { said_opening result ≡ unless (judged (number_of known) table.now) (answered (number_of known)) }
 {
-    if os2_acceptance::surely_accepts(table, known) {
-        return Opening::Known(known);
+    if !os2_acceptance::surely_accepts(table, known) {
+        os2_acceptance::judge(table, known)?;
     }
-    match os2_acceptance::judge(table, known) {
-        Checked::Refused(why) => Opening::Refused(why),
-        Checked::Accepted => Opening::Known(known),
-    }
+    Ok(known)
 }

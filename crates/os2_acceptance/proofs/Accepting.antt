@@ -20,7 +20,8 @@ use Rattle.outcomes.proofs.Tests.{below, not_below, at_most, or_false, or_true, 
 use Rattle.level.specs.Levels.{newest, number_of, level_of}
 use Rattle.level.specs.Sizes.{table_size}
 use Rattle.level.specs.declared.Level.{Level}
-use Rattle.level.specs.declared.LevelAnswer.TheVariants.{Known, Refused}
+use Rattle.std.specs.Prelude.{Ok, Err}
+use Rattle.level.specs.declared.LevelAbove.{LevelAbove}
 use Rattle.level.proofs.Laws.{known, refused, size_rises}
 use Rattle.os2_rules.specs.Tests.{verdict_of}
 use Rattle.os2_rules.specs.Rules.{Rules}
@@ -173,19 +174,19 @@ check_settled_is L b o (check_accepted h a) = rw (le-ltb newest L h, (judged_exa
 
 -- a level's number is its own, and any other number is refusal 1
 module _ (L : ℕ) (b : List ℕ) where
-  pub checked_known : {l : Level} → level_of L ≡ Known l → unless (judged (number_of l) b) accepted ≡ checked L b
+  pub checked_known : {l : Level} → level_of L ≡ Ok l → unless (judged (number_of l) b) accepted ≡ checked L b
   unfolding checked when ◌then◌
   checked_known {l} e = let k = known L l e in rw (k.1, le-ltb newest L k.0)
 
-  pub checked_refused : level_of L ≡ Refused → unless (some (bare 1)) accepted ≡ checked L b
+  pub checked_refused : (r : LevelAbove) → level_of L ≡ Err r → unless (some (bare 1)) accepted ≡ checked L b
   unfolding checked when ◌then◌
-  checked_refused e = rw (lt-ltb newest L (refused L e))
+  checked_refused r e = rw (lt-ltb newest L (refused L r e))
 
   -- a table that the check accepts is one that neither 2 nor 3 turns away
   pub open_checked : checked L b ≡ accepted → judged L b ≡ none
   open_checked e = (judged_exactly L b).1 ((accepts_exactly L b).0 e).1
 
-  pub open_known : {l : Level} → level_of L ≡ Known l → checked L b ≡ accepted → judged (number_of l) b ≡ none
+  pub open_known : {l : Level} → level_of L ≡ Ok l → checked L b ≡ accepted → judged (number_of l) b ≡ none
   open_known {l} e d = rw (known L l e).1 (open_checked d)
 
 -- ---- two levels

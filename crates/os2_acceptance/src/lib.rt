@@ -9,48 +9,64 @@ ghost use Rattle.outcomes.specs.Outcomes.{refusal_of};
 ghost use Rattle.level.specs.Levels.{number_of};
 ghost use Rattle.os2_acceptance.specs.Acceptance.{size_read, judged};
 ghost use Rattle.os2_acceptance.specs.Replies.{said_refusal, said_found};
+ghost use Rattle.os2_acceptance.specs.declared.Refusal.TheVariants.{LevelAbove, RuleBroken};
 
-use level::Level;
-use os2_rules::Verdict;
+use level::{Level, LevelAbove};
+use os2_rules::BrokenRule;
 use outcomes::Told;
 
 // Why a table or a question is refused.
-#[derive(Drop)]
+#[derive(Clone, Copy, Debug, PartialEq, Eq)]
 pub enum Refusal {
     // 1: the level is above 5.
     LevelAbove,
     // 2: the table is under 2 bytes, or shorter than the size for the smaller of its version and the level.
     TooShort,
-    // 3: a value rule is broken; carries the first, 1 to 7.
-    RuleBroken(u32),
+    // 3: a value rule is broken; this is the first.
+    RuleBroken(BrokenRule),
     // 6: the field number is above 47.
     NoField,
     // 7: the bit number is out of its range.
     NoBit,
 }
 
-impl Refusal {
-    // Its number, and what it carries.
-    pub fn told(self) -> Told
-        ensures { refusal_of result ≡ said_refusal self }
-    {
-        match self {
+impl From<LevelAbove> for Refusal {
+    ghost from_gives = { λ above r. r ≡ LevelAbove };
+
+    fn from(_above: LevelAbove) -> Refusal {
+        Refusal::LevelAbove
+    }
+}
+
+impl From<BrokenRule> for Refusal {
+    ghost from_gives = { λ rule r. r ≡ RuleBroken rule };
+
+    fn from(rule: BrokenRule) -> Refusal {
+        Refusal::RuleBroken(rule)
+    }
+}
+
+// Its number, and what it carries.
+impl From<Refusal> for Told {
+    ghost from_gives = { λ why told. refusal_of told ≡ said_refusal why };
+
+    fn from(why: Refusal) -> Told {
+        match why {
             Refusal::LevelAbove => Told::bare(1),
             Refusal::TooShort => Told::bare(2),
-            Refusal::RuleBroken(rule) => Told::carrying(3, rule as usize),
+            Refusal::RuleBroken(rule) => Told::carrying(3, rule.number()),
             Refusal::NoField => Told::bare(6),
             Refusal::NoBit => Told::bare(7),
         }
     }
 }
 
-// What a level says of a table.
-#[derive(Drop)]
-pub enum Checked {
-    // Neither 2's nor 3's condition holds.
-    Accepted,
-    // 1, 2 or 3; of a question also 6 or 7.
-    Refused(Refusal),
+// A table that a level accepts, with the level: whoever makes one shows that neither refusal 2 nor 3 meets it.
+#[derive(Clone, Copy)]
+pub struct Accepted<'a> {
+    pub bytes: &'a [u8],
+    pub known: Level,
+    ghost accepted: { judged (number_of known) bytes.now ≡ none },
 }
 
 // Whether the table's version is at most the level's, and neither 2's nor 3's condition holds: what nearly every table is, told by one `bool`.
@@ -73,23 +89,21 @@ pub fn surely_accepts(table: &[u8], known: Level) -> bool
 }
 
 // Refusals 2 and 3.
-pub fn judge(table: &[u8], known: Level) -> Checked
+pub fn judge(table: &[u8], known: Level) -> Result<(), Refusal>
     ensures { said_found result ≡ judged (number_of known) table.now }
 {
     if table.len() < 2 {
-        return Checked::Refused(Refusal::TooShort);
+        return Err(Refusal::TooShort);
     }
     let version = os2_fields::version_of(table);
     if table.len() < size_read(version, known) {
-        return Checked::Refused(Refusal::TooShort);
+        return Err(Refusal::TooShort);
     }
     if known.number() < version {
-        return Checked::Accepted;
+        return Ok(());
     }
-    match os2_rules::judge(os2_fields::values(table)) {
-        Verdict::Kept => Checked::Accepted,
-        Verdict::Broken(rule) => Checked::Refused(Refusal::RuleBroken(rule)),
-    }
+    os2_rules::judge(os2_fields::values(table))?;
+    Ok(())
 }
 
 // The size for the smaller of a version and a level.

@@ -11,14 +11,9 @@ use Rattle.os2_style.specs.declared.EmbeddingRights.TheVariants.{Installable, Re
 use Rattle.os2_style.specs.declared.OpticalSizes.{OpticalSizes}
 use Rattle.os2_style.specs.declared.OpticalSizes.TheVariants.{Every, Upwards, Between}
 use Rattle.os2_style.specs.Style.{Sizes, every, upwards, between}
+use Rattle.os2_style.specs.declared.StylePosition.{StylePosition}
 use Rattle.os2_answers.specs.declared.Answer.{Answer}
 use Rattle.os2_answers.specs.declared.Answer.TheVariants as Answer·
-use Rattle.os2_answers.specs.declared.RightsAnswer.{RightsAnswer}
-use Rattle.os2_answers.specs.declared.RightsAnswer.TheVariants as RightsAnswer·
-use Rattle.os2_answers.specs.declared.StyleAnswer.{StyleAnswer}
-use Rattle.os2_answers.specs.declared.StyleAnswer.TheVariants as StyleAnswer·
-use Rattle.os2_answers.specs.declared.OpticalAnswer.{OpticalAnswer}
-use Rattle.os2_answers.specs.declared.OpticalAnswer.TheVariants as OpticalAnswer·
 use Rattle.os2_answers.specs.Values.{Value, integer, rights, position, sizes, Said, value, absent, not_known}
 use Rattle.os2_answers.specs.Replies.{said_answer, said_rights_answer, said_style_answer, said_optical_answer}
 
@@ -36,10 +31,10 @@ kind i r p s (sizes x) = s x
 
 -- ---- a field or a bit
 
-abbrev pub answer_of : Said → Answer
+abbrev pub answer_of : Said → Answer ℤ
 answer_of = heard (kind Answer·.Value (λ k. Answer·.NotKnown) (λ a b. Answer·.NotKnown) (λ s. Answer·.NotKnown)) Answer·.Absent Answer·.NotKnown
 
-pub answer_back : (a : Answer) → answer_of (said_answer a) ≡ a
+pub answer_back : (a : Answer ℤ) → answer_of (said_answer a) ≡ a
 answer_back (Answer·.Value x) = refl
 answer_back Answer·.Absent = refl
 answer_back Answer·.NotKnown = refl
@@ -49,30 +44,30 @@ answer_back Answer·.NotKnown = refl
 abbrev rights_in : ℕ → EmbeddingRights
 rights_in k = cond (eqb k 0) Installable (cond (eqb k 1) Restricted (cond (eqb k 2) Preview Editable))
 
-abbrev pub rights_of : Said → RightsAnswer
+abbrev pub rights_of : Said → Answer EmbeddingRights
 rights_of =
-    heard (kind (λ x. RightsAnswer·.NotKnown) (λ k. RightsAnswer·.Value (rights_in k)) (λ a b. RightsAnswer·.NotKnown) (λ s. RightsAnswer·.NotKnown))
-    RightsAnswer·.Absent RightsAnswer·.NotKnown
+    heard (kind (λ x. Answer·.NotKnown) (λ k. Answer·.Value (rights_in k)) (λ a b. Answer·.NotKnown) (λ s. Answer·.NotKnown))
+    Answer·.Absent Answer·.NotKnown
 
-pub rights_back : (a : RightsAnswer) → rights_of (said_rights_answer a) ≡ a
-rights_back (RightsAnswer·.Value Installable) = refl
-rights_back (RightsAnswer·.Value Restricted) = refl
-rights_back (RightsAnswer·.Value Preview) = refl
-rights_back (RightsAnswer·.Value Editable) = refl
-rights_back RightsAnswer·.Absent = refl
-rights_back RightsAnswer·.NotKnown = refl
+pub rights_back : (a : Answer EmbeddingRights) → rights_of (said_rights_answer a) ≡ a
+rights_back (Answer·.Value Installable) = refl
+rights_back (Answer·.Value Restricted) = refl
+rights_back (Answer·.Value Preview) = refl
+rights_back (Answer·.Value Editable) = refl
+rights_back Answer·.Absent = refl
+rights_back Answer·.NotKnown = refl
 
 -- ---- the style position
 
-abbrev pub style_of : Said → StyleAnswer
+abbrev pub style_of : Said → Answer StylePosition
 style_of =
-    heard (kind (λ x. StyleAnswer·.NotKnown) (λ k. StyleAnswer·.NotKnown) (λ a b. StyleAnswer·.Value (record { weight = a; width = b })) (λ s. StyleAnswer·.NotKnown))
-    StyleAnswer·.Absent StyleAnswer·.NotKnown
+    heard (kind (λ x. Answer·.NotKnown) (λ k. Answer·.NotKnown) (λ a b. Answer·.Value (record { weight = a; width = b })) (λ s. Answer·.NotKnown))
+    Answer·.Absent Answer·.NotKnown
 
-pub style_back : (a : StyleAnswer) → style_of (said_style_answer a) ≡ a
-style_back (StyleAnswer·.Value p) = refl
-style_back StyleAnswer·.Absent = refl
-style_back StyleAnswer·.NotKnown = refl
+pub style_back : (a : Answer StylePosition) → style_of (said_style_answer a) ≡ a
+style_back (Answer·.Value p) = refl
+style_back Answer·.Absent = refl
+style_back Answer·.NotKnown = refl
 
 -- ---- optical sizes
 
@@ -81,14 +76,14 @@ sizes_in every = Every
 sizes_in (upwards a) = Upwards a
 sizes_in (between a b) = Between a b
 
-abbrev pub optical_of : Said → OpticalAnswer
+abbrev pub optical_of : Said → Answer OpticalSizes
 optical_of =
-    heard (kind (λ x. OpticalAnswer·.NotKnown) (λ k. OpticalAnswer·.NotKnown) (λ a b. OpticalAnswer·.NotKnown) (λ s. OpticalAnswer·.Value (sizes_in s)))
-    OpticalAnswer·.Absent OpticalAnswer·.NotKnown
+    heard (kind (λ x. Answer·.NotKnown) (λ k. Answer·.NotKnown) (λ a b. Answer·.NotKnown) (λ s. Answer·.Value (sizes_in s)))
+    Answer·.Absent Answer·.NotKnown
 
-pub optical_back : (a : OpticalAnswer) → optical_of (said_optical_answer a) ≡ a
-optical_back (OpticalAnswer·.Value Every) = refl
-optical_back (OpticalAnswer·.Value (Upwards a)) = refl
-optical_back (OpticalAnswer·.Value (Between a b)) = refl
-optical_back OpticalAnswer·.Absent = refl
-optical_back OpticalAnswer·.NotKnown = refl
+pub optical_back : (a : Answer OpticalSizes) → optical_of (said_optical_answer a) ≡ a
+optical_back (Answer·.Value Every) = refl
+optical_back (Answer·.Value (Upwards a)) = refl
+optical_back (Answer·.Value (Between a b)) = refl
+optical_back Answer·.Absent = refl
+optical_back Answer·.NotKnown = refl

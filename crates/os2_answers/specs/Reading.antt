@@ -13,8 +13,7 @@ pub record Asked (L : ℕ) (b : List ℕ) (q : Question) : Type 0 where
   pub in_range : own_refusal q ≡ none
   pub opened : judged L b ≡ none
 
--- bit n of a field that lies in the table wherever version p is known and there, of a table that level L accepts
+-- bit n of a field that lies in the table wherever version p is known and there
 pub record BitIn (L : ℕ) (b : List ℕ) (p : ℕ) (f : Field) (n : ℕ) : Type 0 where
-  pub opened : judged L b ≡ none
   pub lies : p ≤ L → p ≤ version b → Lies b f
   pub low : n < 32

@@ -54,7 +54,7 @@ same_exactly (pos x) (negsuc y) = (λ e. absurd (false≢true e), λ e. let z : 
 same_exactly (negsuc x) (pos y) = (λ e. absurd (false≢true e), λ e. let z : ◌≡◌ {A = ℕ} 0 1 = cc in absurd (omega arith))
 same_exactly (negsuc x) (negsuc y) = (λ e. ap negsuc ((equal x y).0 e), λ e. (equal x y).1 (cc))
 
-pub differ_exactly : (a b : Answer) → (differ a b ≡ true) ↔ (a ≡ b → ⊥)
+pub differ_exactly : (a b : Answer ℤ) → (differ a b ≡ true) ↔ (a ≡ b → ⊥)
 unfolding differ same_figure
 differ_exactly (Value x) (Value y) =
     Iff.trans (not_is (same_figure x y)) (Iff.trans (fails (same_figure x y) (same_exactly x y)) (λ h e. h (cc), λ h e. h (ap Value e)))
@@ -68,19 +68,19 @@ differ_exactly NotKnown Absent = (λ e d. omega (arith, ap kind_of d), λ h. ref
 differ_exactly NotKnown NotKnown = (λ e. absurd (false≢true e), λ h. absurd (h refl))
 
 -- the two numbers of a row settle the answer
-abbrev answer_by : ℕ → ℤ → Answer
+abbrev answer_by : ℕ → ℤ → Answer ℤ
 answer_by k x = cond (eqb k 1) (Value x) (cond (eqb k 2) Absent NotKnown)
 
-row_settles : (a : Answer) → answer_by (kind_of a) (figure_of a) ≡ a
+row_settles : (a : Answer ℤ) → answer_by (kind_of a) (figure_of a) ≡ a
 row_settles (Value x) = refl
 row_settles Absent = refl
 row_settles NotKnown = refl
 
-pub one_answer : (a b : Answer) → kind_of a ≡ kind_of b → figure_of a ≡ figure_of b → a ≡ b
+pub one_answer : (a b : Answer ℤ) → kind_of a ≡ kind_of b → figure_of a ≡ figure_of b → a ≡ b
 one_answer a b k x = sym (row_settles a) ∙ (ap (λ n. answer_by n (figure_of a)) k ∙ (ap (answer_by (kind_of b)) x ∙ row_settles b))
 
 -- of two answers that are the same of the three, the code holds the registers of their values against each other
-pub by_figures : (a b : Answer) {x y : ℤ} → SFits w64 x → SFits w64 y → x ≡ figure_of a → y ≡ figure_of b → kind_of a ≡ kind_of b
+pub by_figures : (a b : Answer ℤ) {x y : ℤ} → SFits w64 x → SFits w64 y → x ≡ figure_of a → y ≡ figure_of b → kind_of a ≡ kind_of b
     → not (eqb (of_z w64 x) (of_z w64 y)) ≡ differ a b
 by_figures a b {x} {y} f g p q k = at (eqb (of_z w64 x) (of_z w64 y)) refl
   where
@@ -123,7 +123,7 @@ module _ (L : ℕ) (b : List ℕ) (k : ℕ) where
   settled_given {s} x = let e = ((unless_answered _ _ s).0 (settled_is L b (Question·.Field k) (answered s) x)).1 in cc
 
   -- .. and nothing else is
-  pub settled_answer : {a : Answer} → Settled L b (Question·.Field k) (answered (said_answer a)) → a ≡ answer_in L b (field_of k)
+  pub settled_answer : {a : Answer ℤ} → Settled L b (Question·.Field k) (answered (said_answer a)) → a ≡ answer_in L b (field_of k)
   settled_answer {a} x = once said_answer answer_of answer_back a (answer_in L b (field_of k)) (sym (settled_given x) ∙ sym answer_given)
 
 -- "not known" depends on the level and the field alone, so it is the answer on every table or on none
@@ -135,7 +135,7 @@ module _ (L : ℕ) (b c : List ℕ) (k : ℕ) where
       ((unknown_exactly _ _ _ _).1
       (⊎_elim (λ h. inl h) (λ n. absurd (false≢true n.0)) ((unknown_exactly _ _ _ _).0 (given_unknown L b (Question·.Field k) e))))
 
-  pub unknown_both : {x y : Answer} → Settled L b (Question·.Field k) (answered (said_answer x)) → Settled L c (Question·.Field k) (answered (said_answer y)) →
+  pub unknown_both : {x y : Answer ℤ} → Settled L b (Question·.Field k) (answered (said_answer x)) → Settled L c (Question·.Field k) (answered (said_answer y)) →
       x ≡ NotKnown → y ≡ NotKnown
   unknown_both {x} {y} p q e =
       once said_answer answer_of answer_back y NotKnown

@@ -65,7 +65,7 @@ module _ {A : Type 0} (f : ℕ → Option A) where
     pub all_done : count ≤ done → list_below f k ≡ list_below f n
     all_done l = whole f k n inside (omega (arith, shorter f k n inside))
 
-module _ (L : ℕ) (left right : List ℕ) (k : ℕ) {a b : Answer} (p : a ≡ answer_in L left (field_of k)) (q : b ≡ answer_in L right (field_of k)) where
+module _ (L : ℕ) (left right : List ℕ) (k : ℕ) {a b : Answer ℤ} (p : a ≡ answer_in L left (field_of k)) (q : b ≡ answer_in L right (field_of k)) where
   abbrev f : ℕ → Option Difference
   f = difference_at L left right
 

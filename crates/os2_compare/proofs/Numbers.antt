@@ -6,13 +6,14 @@ use mathlib.Core.Option.{none, some}
 use mathlib.Core.List.{List, [], ◌∷◌, map}
 use lib.IntN.{ℤ, pos, negsuc}
 use Rattle.outcomes.specs.Outcomes.{bare, carrying}
+use Rattle.os2_rules.specs.declared.BrokenRule.TheVariants.{Regular, Sizes}
 use Rattle.os2_acceptance.specs.declared.Refusal.TheVariants.{TooShort, RuleBroken}
 use Rattle.os2_answers.specs.declared.Answer.TheVariants.{Value, Absent, NotKnown}
-use Rattle.comparing.specs.declared.Side.TheVariants as Side·
+use Rattle.std.specs.Prelude.{Ok, Err}
+use Rattle.comparing.specs.Comparisons as side
 use Rattle.comparing.specs.Comparisons.{listed, refused}
 use Rattle.os2_compare.specs.declared.Refusal.{Refusal}
 use Rattle.os2_compare.specs.declared.Refusal.TheVariants.{LevelAbove, Left, Right, TooManyDifferences}
-use Rattle.os2_compare.specs.declared.Compared.TheVariants.{Listed, Refused}
 use Rattle.os2_compare.specs.Differences.{kind_of, figure_of, row_of}
 use Rattle.os2_compare.specs.Comparisons.{said_refusal, said_compared}
 use Rattle.os2_compare.specs.Examples.{row}
@@ -21,19 +22,19 @@ use Rattle.os2_compare.specs.Examples.{row}
 
 abbrev refusals : List Refusal
 refusals =
-    LevelAbove ∷ Left TooShort ∷ Left (RuleBroken 6) ∷ Right TooShort ∷ Right (RuleBroken 7) ∷ TooManyDifferences ∷ []
+    LevelAbove ∷ Left TooShort ∷ Left (RuleBroken Regular) ∷ Right TooShort ∷ Right (RuleBroken Sizes) ∷ TooManyDifferences ∷ []
 
 pub numbers : map (λ r. (said_refusal r).refusal.number) refusals ≡ 1 ∷ 2 ∷ 3 ∷ 2 ∷ 3 ∷ 29 ∷ []
 numbers = refl
 
-pub sides : map (λ r. (said_refusal r).side) refusals ≡ Side·.Neither ∷ Side·.Left ∷ Side·.Left ∷ Side·.Right ∷ Side·.Right ∷ Side·.Neither ∷ []
+pub sides : map (λ r. (said_refusal r).side) refusals ≡ side.Neither ∷ side.Left ∷ side.Left ∷ side.Right ∷ side.Right ∷ side.Neither ∷ []
 sides = refl
 
 pub carries : map (λ r. (said_refusal r).refusal.carried) refusals ≡ none ∷ none ∷ some 6 ∷ none ∷ some 7 ∷ none ∷ []
 carries = refl
 
-pub answers : map said_compared (Listed 7 ∷ Refused LevelAbove ∷ Refused (Right (RuleBroken 7)) ∷ []) ≡
-    listed 7 ∷ refused Side·.Neither (bare 1) ∷ refused Side·.Right (carrying 3 7) ∷ []
+pub answers : map said_compared (Ok 7 ∷ Err LevelAbove ∷ Err (Right (RuleBroken Sizes)) ∷ []) ≡
+    listed 7 ∷ refused side.Neither (bare 1) ∷ refused side.Right (carrying 3 7) ∷ []
 answers = refl
 
 -- ---- the rows

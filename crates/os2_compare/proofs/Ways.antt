@@ -11,10 +11,11 @@ use Rattle.outcomes.proofs.Laws.{when_none, when_some}
 use Rattle.outcomes.proofs.Tests.{below, not_below}
 use Rattle.level.specs.Levels.{newest, number_of, level_of}
 use Rattle.level.specs.declared.Level.{Level}
-use Rattle.level.specs.declared.LevelAnswer.TheVariants as LevelAnswer·
+use Rattle.level.specs.declared.LevelAbove.{LevelAbove}
+use Rattle.std.specs.Prelude.{Ok, Err}
 use Rattle.level.proofs.Laws as levels
 use Rattle.os2_acceptance.specs.Acceptance.{judged}
-use Rattle.comparing.specs.declared.Side.TheVariants.{Neither, Left, Right}
+use Rattle.comparing.specs.Comparisons.{Neither, Left, Right}
 use Rattle.comparing.specs.Rooms.{rows_of, front}
 use Rattle.comparing.specs.Comparisons.{Blamed, on, listed, refused, answer_of, room_after}
 use Rattle.comparing.proofs.Rooms.{too_many_exactly, enough_exactly}
@@ -31,11 +32,11 @@ module _ (L : ℕ) (left right : List ℕ) (room : List ℤ) where
   unfolding compared_of room_of
   refuses e = is_refused _ _ _ e
 
-  pub level_refused : level_of L ≡ LevelAnswer·.Refused → Refuses (on Neither (bare 1))
+  pub level_refused : {r : LevelAbove} → level_of L ≡ Err r → Refuses (on Neither (bare 1))
   unfolding blame_of level_refusal
-  level_refused e = refuses (way_call _ _ _ _ _ ((when_some _ _ _).1 ((below newest L).1 (levels.refused L e), refl)))
+  level_refused {r} e = refuses (way_call _ _ _ _ _ ((when_some _ _ _).1 ((below newest L).1 (levels.refused L r e), refl)))
 
-  module _ {l : Level} (e : level_of L ≡ LevelAnswer·.Known l) where
+  module _ {l : Level} (e : level_of L ≡ Ok l) where
     low : level_refusal L ≡ none
     unfolding level_refusal
     low = (when_none _ _).1 ((not_below newest L).1 (levels.known L l e).0)

@@ -1,5 +1,5 @@
 -- Document 02, Ask 2, of two 'OS/2' tables: what the comparison answers, and what the lent room then holds.
-use Rattle.std.specs.Prelude.{ℕ, List, ltb, ℤ, length}
+use Rattle.std.specs.Prelude.{ℕ, List, ltb, ℤ, length, Result}
 use Rattle.std.proofs.Math.Option.{Option}
 use Rattle.outcomes.specs.Firsts.{when}
 use Rattle.outcomes.specs.Outcomes as outcomes
@@ -7,13 +7,11 @@ use Rattle.outcomes.specs.Outcomes.{bare}
 use Rattle.level.specs.Levels.{newest}
 use Rattle.os2_acceptance.specs.Acceptance.{judged}
 use Rattle.os2_acceptance.specs.Replies as replies
-use Rattle.comparing.specs.declared.Side.TheVariants as Side·
 use Rattle.comparing.specs.Rooms.{rows_of}
-use Rattle.comparing.specs.Comparisons.{Blamed, on, blame, Comparison, listed, refused, answer_of, room_after}
+use Rattle.comparing.specs.Comparisons as side
+use Rattle.comparing.specs.Comparisons.{Blamed, on, blame, Comparison, answer_of, room_after, said_by}
 use Rattle.os2_compare.specs.declared.Refusal.{Refusal}
 use Rattle.os2_compare.specs.declared.Refusal.TheVariants.{LevelAbove, Left, Right, TooManyDifferences}
-use Rattle.os2_compare.specs.declared.Compared.{Compared}
-use Rattle.os2_compare.specs.declared.Compared.TheVariants.{Listed, Refused}
 use Rattle.os2_compare.specs.Differences.{differences, row_of}
 
 -- "1 for the level, first and with no side"
@@ -34,11 +32,10 @@ room_of L left right room = room_after (blame_of L left right (length room)) (ro
 
 -- what the code's refusals and answers say
 abbrev pub said_refusal : Refusal → Blamed
-said_refusal LevelAbove = on Side·.Neither (bare 1)
-said_refusal (Left r) = on Side·.Left (replies.said_refusal r)
-said_refusal (Right r) = on Side·.Right (replies.said_refusal r)
-said_refusal TooManyDifferences = on Side·.Neither (bare 29)
+said_refusal LevelAbove = on side.Neither (bare 1)
+said_refusal (Left r) = on side.Left (replies.said_refusal r)
+said_refusal (Right r) = on side.Right (replies.said_refusal r)
+said_refusal TooManyDifferences = on side.Neither (bare 29)
 
-abbrev pub said_compared : Compared → Comparison
-said_compared (Listed n) = listed n
-said_compared (Refused r) = refused (said_refusal r).side (said_refusal r).refusal
+abbrev pub said_compared : Result ℕ Refusal → Comparison
+said_compared r = said_by said_refusal r

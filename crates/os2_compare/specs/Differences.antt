@@ -16,25 +16,25 @@ use Rattle.comparing.specs.Lists.{list_below}
 -- "field number, both answers"
 pub record Difference : Type 0 where
   pub field : ℕ
-  pub left : Answer
-  pub right : Answer
+  pub left : Answer ℤ
+  pub right : Answer ℤ
 
 -- what level L answers on a field of a table that it accepts
-abbrev pub answer_for : Case → ℤ → Answer
+abbrev pub answer_for : Case → ℤ → Answer ℤ
 answer_for Case·.NotKnown x = NotKnown
 answer_for Case·.Absent x = Absent
 answer_for Case·.Value x = Value x
 
-unfoldable pub answer_in : ℕ → List ℕ → Field → Answer
+unfoldable pub answer_in : ℕ → List ℕ → Field → Answer ℤ
 answer_in L b f = answer_for (case_of f.since false L (version b)) (field_value b f)
 
 -- an answer in a row: which of the three it is, and the value, 0 where there is none
-abbrev pub kind_of : Answer → ℕ
+abbrev pub kind_of : Answer ℤ → ℕ
 kind_of (Value x) = 1
 kind_of Absent = 2
 kind_of NotKnown = 3
 
-abbrev pub figure_of : Answer → ℤ
+abbrev pub figure_of : Answer ℤ → ℤ
 figure_of (Value x) = x
 figure_of Absent = pos 0
 figure_of NotKnown = pos 0
@@ -46,7 +46,7 @@ same_figure (pos x) (negsuc y) = false
 same_figure (negsuc x) (pos y) = false
 same_figure (negsuc x) (negsuc y) = eqb x y
 
-unfoldable pub differ : Answer → Answer → Bool
+unfoldable pub differ : Answer ℤ → Answer ℤ → Bool
 differ a b = not (eqb (kind_of a) (kind_of b) && same_figure (figure_of a) (figure_of b))
 
 -- field k, where the answers differ

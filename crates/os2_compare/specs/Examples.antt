@@ -2,7 +2,7 @@
 use Rattle.std.specs.Prelude.{ℕ, ◌≡◌, List, [], ◌∷◌, map, ℤ, pos, negsuc, replicate}
 use Rattle.outcomes.specs.Outcomes.{bare, carrying}
 use Rattle.os2_answers.specs.Examples.{with, first}
-use Rattle.comparing.specs.declared.Side.TheVariants.{Neither, Left, Right}
+use Rattle.comparing.specs.Comparisons.{Neither, Left, Right}
 use Rattle.comparing.specs.Comparisons.{listed, refused}
 use Rattle.os2_compare.specs.Differences.{differences, row_of}
 use Rattle.os2_compare.specs.Comparisons.{compared_of, room_of}

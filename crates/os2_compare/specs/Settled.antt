@@ -14,7 +14,7 @@ use Rattle.os2_compare.specs.Differences.{Difference, row_of}
 
 -- a field on which the two tables' answers at the level, which document 01 settles, are not the same
 pub data Differs (L : ℕ) (left right : List ℕ) : Difference → Type 0 where
-  field_differs : {k : ℕ} {a b : Answer} → k ≤ 47 → Settled L left (Field k) (answered (said_answer a)) → Settled L right (Field k) (answered (said_answer b)) →
+  field_differs : {k : ℕ} {a b : Answer ℤ} → k ≤ 47 → Settled L left (Field k) (answered (said_answer a)) → Settled L right (Field k) (answered (said_answer b)) →
       (a ≡ b → ⊥) → Differs L left right (record { field = k; left = a; right = b })
 
 -- "in field order"

@@ -10,18 +10,17 @@ ghost use Rattle.os2_answers.specs.declared.Answer.{Answer};
 ghost use Rattle.comparing.specs.Rooms.{rows_of, front};
 ghost use Rattle.comparing.specs.Comparisons.{blamed_of};
 ghost use Rattle.os2_compare.specs.Differences.{answer_in, kind_of, figure_of, differ, row_of, differences};
-ghost use Rattle.os2_compare.specs.Comparisons.{said_refusal, said_compared, compared_of, room_of};
+ghost use Rattle.os2_compare.specs.Comparisons.{compared_of, room_of, said_refusal, said_compared};
 ghost use Rattle.os2_compare.specs.Steps.{Accepted, Entry};
 
 use comparing::{Blame, ROW_SIZE, Side, too_many};
-use level::{Level, LevelAnswer};
-use os2_acceptance::Checked;
+use level::Level;
 use os2_answers::Answer;
-use os2_fields::{FIELD_COUNT, Field};
+use os2_fields::Field;
 use os2_questions::{Case, case_of};
 use outcomes::Told;
 
-// What an answer is in a row: a value, absent, not known.
+// What an answer is in a row, which C reads as numbers: a value, absent, not known.
 const VALUE: u32 = 1;
 
 const ABSENT: u32 = 2;
@@ -29,7 +28,7 @@ const ABSENT: u32 = 2;
 const NOT_KNOWN: u32 = 3;
 
 // Why nothing is listed.
-#[derive(Drop)]
+#[derive(Clone, Copy, Debug, PartialEq, Eq)]
 pub enum Refusal {
     // 1: the level is above 5.
     LevelAbove,
@@ -41,62 +40,51 @@ pub enum Refusal {
     TooManyDifferences,
 }
 
-impl Refusal {
-    // Its side, its number, and what it carries.
-    pub fn told(self) -> Blame
-        ensures { blamed_of result ≡ said_refusal self }
-    {
-        match self {
-            Refusal::LevelAbove => Blame::new(Side::Neither, Told::bare(1)),
-            Refusal::Left(why) => Blame::new(Side::Left, why.told()),
-            Refusal::Right(why) => Blame::new(Side::Right, why.told()),
-            Refusal::TooManyDifferences => Blame::new(Side::Neither, Told::bare(29)),
+// Its side, its number, and what it carries.
+impl From<Refusal> for Blame {
+    ghost from_gives = { λ why blame. blamed_of blame ≡ said_refusal why };
+
+    fn from(why: Refusal) -> Blame {
+        match why {
+            Refusal::LevelAbove => Blame::new(None, Told::bare(1)),
+            Refusal::Left(refusal) => Blame::new(Some(Side::Left), Told::from(refusal)),
+            Refusal::Right(refusal) => Blame::new(Some(Side::Right), Told::from(refusal)),
+            Refusal::TooManyDifferences => Blame::new(None, Told::bare(29)),
         }
     }
 }
 
-// What a comparison answers.
-#[derive(Drop)]
-pub enum Compared {
-    // The number of rows written, one a difference.
-    Listed(usize),
-    Refused(Refusal),
-}
-
 // Lists the fields whose answers differ in rows of five numbers: the field; on the left what the answer is (1 a value, 2 absent, 3 not known) and the value,
 // 0 where there is none; the same on the right.
-pub fn compare(left: &[u8], right: &[u8], level: u32, rows: &mut [i64]) -> Compared
+pub fn compare(left: &[u8], right: &[u8], level: u32, rows: &mut [i64]) -> Result<usize, Refusal>
     ensures { (said_compared result ≡ compared_of level left.now right.now (length rows.old)) ×
         (rows.new ≡ room_of level left.now right.now rows.old) }
 {
-    let LevelAnswer::Known(known) = Level::new(level) else {
-        return Compared::Refused(Refusal::LevelAbove);
+    let Ok(known) = Level::try_from(level) else {
+        return Err(Refusal::LevelAbove);
     };
-    if let Checked::Refused(why) = os2_acceptance::judge(left, known) {
-        return Compared::Refused(Refusal::Left(why));
+    if let Err(why) = os2_acceptance::judge(left, known) {
+        return Err(Refusal::Left(why));
     }
-    if let Checked::Refused(why) = os2_acceptance::judge(right, known) {
-        return Compared::Refused(Refusal::Right(why));
+    if let Err(why) = os2_acceptance::judge(right, known) {
+        return Err(Refusal::Right(why));
     }
     let count = count_differences(left, right, known);
     if too_many(count, rows.len()) {
-        return Compared::Refused(Refusal::TooManyDifferences);
+        return Err(Refusal::TooManyDifferences);
     }
     write_differences(left, right, known, count, rows);
-    Compared::Listed(count)
+    Ok(count)
 }
 
-// How many fields differ between two tables that the level accepts.
+// How many fields differ between two tables that the level accepts. (One level for both: an `Accepted` of each would have it twice, and the fact that it is the same.)
 fn count_differences(left: &[u8], right: &[u8], known: Level) -> usize
     requires { Accepted (number_of known) left.now right.now }
     ensures { result ≡ length (differences (number_of known) left.now right.now) }
 {
     let fields = os2_fields::entries();
     let mut count = 0;
-    let mut k: usize = 0;
-    while k < FIELD_COUNT {
-        let f = fields[k];
-        k += 1;
+    for &f in &fields {
         if differ(answer(left, known, f), answer(right, known, f)) {
             count += 1;
         }
@@ -110,23 +98,22 @@ fn write_differences(left: &[u8], right: &[u8], known: Level, count: usize, rows
     ensures { rows.new ≡ front (rows_of row_of (differences (number_of known) left.now right.now)) rows.old }
 {
     let fields = os2_fields::entries();
-    let mut done: usize = 0;
-    let mut k: usize = 0;
-    while done < count {
-        let f = fields[k];
-        let here = k as u32;
-        k += 1;
+    let mut done = 0;
+    for (k, &f) in fields.iter().enumerate() {
+        if done == count {
+            break;
+        }
         let on_left = answer(left, known, f);
         let on_right = answer(right, known, f);
         if differ(on_left, on_right) {
-            put(rows, ROW_SIZE * done, here, on_left, on_right);
+            put(rows, ROW_SIZE * done, k as u32, on_left, on_right);
             done += 1;
         }
     }
 }
 
 // The answer on a field of the catalogue.
-fn answer(table: &[u8], known: Level, f: Field) -> Answer
+fn answer(table: &[u8], known: Level, f: Field) -> Answer<i64>
     requires { Entry (number_of known) table.now f }
     ensures { result ≡ answer_in (number_of known) table.now f }
 {
@@ -137,8 +124,8 @@ fn answer(table: &[u8], known: Level, f: Field) -> Answer
     }
 }
 
-// Whether two answers differ.
-fn differ(a: Answer, b: Answer) -> bool
+// Whether two answers differ. (By the derived `!=`: tried, and the proof did not close, since what it ensures of a generic enum speaks of the enum's layout.)
+fn differ(a: Answer<i64>, b: Answer<i64>) -> bool
     ensures { result ≡ differ a b }
 {
     if kind(a) != kind(b) {
@@ -148,7 +135,7 @@ fn differ(a: Answer, b: Answer) -> bool
 }
 
 // What an answer is.
-fn kind(a: Answer) -> u32
+fn kind(a: Answer<i64>) -> u32
     ensures { result ≡ kind_of a }
 {
     match a {
@@ -159,7 +146,7 @@ fn kind(a: Answer) -> u32
 }
 
 // Its value, 0 where there is none.
-fn figure(a: Answer) -> i64
+fn figure(a: Answer<i64>) -> i64
     ensures { result ≡ figure_of a }
 {
     match a {
@@ -170,13 +157,13 @@ fn figure(a: Answer) -> i64
 }
 
 // Writes a field's row from a place on.
-fn put(rows: &mut [i64], at: usize, field: u32, a: Answer, b: Answer)
+fn put(rows: &mut [i64], at: usize, field: u32, a: Answer<i64>, b: Answer<i64>)
     requires { at + 5 ≤ length rows.old }
     ensures { rows.new ≡ sets rows.old at (row_of (record { field = field; left = a; right = b })) }
 {
-    rows[at] = os2_fields::plain(field);
-    rows[at + 1] = os2_fields::plain(kind(a));
+    rows[at] = i64::from(field);
+    rows[at + 1] = i64::from(kind(a));
     rows[at + 2] = figure(a);
-    rows[at + 3] = os2_fields::plain(kind(b));
+    rows[at + 3] = i64::from(kind(b));
     rows[at + 4] = figure(b);
 }

@@ -47,7 +47,8 @@ fn optical_size(table: &[u8], f: Field) -> u16
     word(table, f)
 }
 
-// The version stored in a table.
+// The version stored in a table. That two bytes are there, here and in `os2_questions`, is asked of plain bytes: each caller knows it by another test, and a type of such
+// tables would be made for the one read.
 pub fn version(table: &[u8]) -> u16
     requires { 2 ≤ length table.now }
     ensures { result ≡ version table.now }
@@ -72,7 +73,7 @@ pub fn word(table: &[u8], f: Field) -> u16
     bigendian::read_u16(table, at)
 }
 
-// The whole number that a field holds.
+// The whole number that a field holds. That the field lies in the table is a fact of the two, which each call puts together anew: a struct of both would be made for one read.
 pub fn value(table: &[u8], f: Field) -> i64
     requires { Lies table.now f }
     ensures { result ≡ value_in table.now f }
@@ -81,7 +82,7 @@ pub fn value(table: &[u8], f: Field) -> i64
     if f.signed {
         return signed(bigendian::read_u16(table, at));
     }
-    plain(number(table, f))
+    i64::from(number(table, f))
 }
 
 // The number that a field's bytes make.
@@ -92,35 +93,19 @@ pub fn number(table: &[u8], f: Field) -> u32
     let at = f.offset as usize;
     let width = f.width;
     if width == 1 {
-        return byte(table[at]);
+        return u32::from(table[at]);
     }
     if width == 2 {
-        return bigendian::read_u16(table, at) as u32;
+        return u32::from(bigendian::read_u16(table, at));
     }
     bigendian::read_u32(table, at)
-}
-
-fn byte(x: u8) -> u32
-    ensures { result ≡ x }
-{
-    x as u32
 }
 
 // A signed number of two bytes.
 fn signed(x: u16) -> i64
     ensures { result ≡ signed_of 2 x }
 {
-    if x < 32768 {
-        return x as i64;
-    }
-    x as i64 - 65536
-}
-
-// An unsigned number.
-pub fn plain(x: u32) -> i64
-    ensures { result ≡ pos x }
-{
-    x as i64
+    i64::from(x.cast_signed())
 }
 
 // Bit n of a number.

@@ -2,44 +2,21 @@
 // a file reads standard input. docs/DECISIONS.md has the lines. It only reads, loops and writes: the lines are the libraries'.
 #![tactic(auto)]
 
-ghost use Rattle.std.specs.Prelude.{◌≤◌, ◌≡◌, length};
-ghost use Rattle.std.proofs.Math.Option.{none};
-ghost use Rattle.lines.specs.Pieces.{line_room};
-ghost use Rattle.level.specs.Levels.{number_of};
-ghost use Rattle.os2_acceptance.specs.Acceptance.{judged};
-
-use level::{Level, LevelAnswer, LevelWord};
-use lines::append;
-use listing_io::{Input, room_behind, say, write};
-use os2_acceptance::{Checked, Refusal};
+use level::Level;
+use listing_io::{NoTable, Page, say};
+use os2_acceptance::{Accepted, Refusal};
 use os2_lines::LINE_COUNT;
-use std::env::FillError;
-use std::rt::Env;
+use outcomes::Told;
 
 fn main(rt: HostRuntime) {
-    let count = argument_count(&rt);
+    let count = listing_io::argument_count(&rt);
     if count < 2 {
         say(&rt, b"os2_listing: no level\n");
-        return;
     }
-    let mut i = 1;
-    while i < count {
-        list_arguments(&rt, i, i + 1);
-        if count - i < 2 {
-            return;
-        }
-        i += 2;
+    for pair in 0..count / 2 {
+        let level = 2 * pair + 1;
+        list_arguments(&rt, level, level + 1);
     }
-}
-
-// How many arguments there are, the program's name among them.
-fn argument_count(rt: &impl Env) -> usize {
-    for i in 0..usize::MAX {
-        if let Err(FillError::NotPresent) = rt.arg(i, &mut []) {
-            return i;
-        }
-    }
-    usize::MAX
 }
 
 // The listing at the level that one argument gives, of the file that another names.
@@ -50,8 +27,8 @@ fn list_arguments(rt: &HostRuntime, level: usize, file: usize) {
         return;
     };
     match level::level_in(&word[..n]) {
-        LevelWord::Number(number) => list_input(rt, number, file),
-        LevelWord::NoNumber => {
+        Some(number) => list_input(rt, number, file),
+        None => {
             say(rt, &word[..n]);
             say(rt, b": no level\n");
         }
@@ -62,52 +39,38 @@ fn list_arguments(rt: &HostRuntime, level: usize, file: usize) {
 fn list_input(rt: &HostRuntime, level: u32, file: usize) {
     let mut table = [0u8; 65536];
     match listing_io::read_table(rt, file, &mut table) {
-        Input::Table(n) => list_table(rt, &table[..n], level),
-        Input::TooLong => listing_io::write_line(rt, lines::too_long()),
-        Input::Unread => {}
+        Ok(n) => list_table(rt, &table[..n], level),
+        Err(NoTable::TooLong) => listing_io::write_line(rt, lines::too_long()),
+        Err(NoTable::Unread) => {}
     }
 }
 
-// A table's one line of refusal, or its lines.
+// A table's lines, or its one line of refusal.
 fn list_table(rt: &HostRuntime, table: &[u8], level: u32) {
-    match Level::new(level) {
-        LevelAnswer::Known(known) => list_known(rt, table, known),
-        LevelAnswer::Refused => list_refusal(rt, Refusal::LevelAbove),
+    if let Err(why) = list_accepted(rt, table, level) {
+        listing_io::write_line(rt, lines::refusal_line(Told::from(why)));
     }
 }
 
-// The same at one of the six levels.
-fn list_known(rt: &HostRuntime, table: &[u8], known: Level) {
-    match os2_acceptance::judge(table, known) {
-        Checked::Accepted => list_accepted(rt, table, known),
-        Checked::Refused(refusal) => list_refusal(rt, refusal),
-    }
-}
-
-fn list_refusal(rt: &HostRuntime, refusal: Refusal) {
-    listing_io::write_line(rt, lines::refusal_line(refusal.told()));
+// The lines of a table that the level accepts, or why it does not.
+fn list_accepted(rt: &HostRuntime, table: &[u8], level: u32) -> Result<(), Refusal> {
+    let known = Level::try_from(level)?;
+    os2_acceptance::judge(table, known)?;
+    list_lines(
+        rt,
+        &Accepted {
+            bytes: table,
+            known,
+        },
+    );
+    Ok(())
 }
 
 // The lines of a table that the level accepts.
-fn list_accepted(rt: &HostRuntime, table: &[u8], known: Level)
-    requires { judged (number_of known) table.now ≡ none }
-{
-    let mut out = [0u8; 4096];
-    let end = table_lines(rt, table, known, &mut out);
-    write(rt, &out[..end]);
-}
-
-// Collects the lines, writes them out whenever the room is used up, and answers how many bytes are left to write.
-fn table_lines(rt: &HostRuntime, table: &[u8], known: Level, out: &mut [u8]) -> usize
-    requires { (judged (number_of known) table.now ≡ none) × (line_room ≤ length out.old) }
-    ensures { result ≤ length out.new }
-{
-    let mut end = 0;
-    let mut k = 0;
-    while k < LINE_COUNT {
-        let room = room_behind(rt, out, end);
-        end = append(out, room, os2_lines::line(table, known, k));
-        k += 1;
+fn list_lines(rt: &HostRuntime, table: &Accepted<'_>) {
+    let mut page = Page::new();
+    for k in 0..LINE_COUNT {
+        page.put(rt, os2_lines::line(table, k));
     }
-    end
+    page.write(rt);
 }

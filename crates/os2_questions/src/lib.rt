@@ -13,11 +13,11 @@ ghost use Rattle.os2_questions.specs.Questions.{own_refusal, since};
 ghost use Rattle.os2_questions.specs.Cases.{above, unknown, case_of};
 
 use level::Level;
-use os2_acceptance::{Checked, Refusal};
+use os2_acceptance::Refusal;
 use os2_fields::FSSELECTION_ENTRY;
 
 // The seven questions.
-#[derive(Drop)]
+#[derive(Clone, Copy, Debug, PartialEq, Eq)]
 pub enum Question {
     // A field, 0 to 47; 6 above.
     Field(u32),
@@ -33,7 +33,7 @@ pub enum Question {
 }
 
 // Which of document 01's three things an answer is.
-#[derive(Drop)]
+#[derive(Clone, Copy, Debug, PartialEq, Eq)]
 pub enum Case {
     // What is asked for came in after the level, or is asked of the whole of a table that did.
     NotKnown,
@@ -46,7 +46,7 @@ pub enum Case {
 const LATER_BITS_SINCE: u32 = 4;
 
 // Refusals 6 and 7.
-pub fn in_range(question: Question) -> Checked
+pub fn in_range(question: Question) -> Result<(), Refusal>
     ensures { said_found result ≡ own_refusal question }
 {
     match question {
@@ -54,20 +54,18 @@ pub fn in_range(question: Question) -> Checked
         Question::SelectionBit(number) => at_most(number, 9, Refusal::NoBit),
         Question::UnicodeBit(number) => at_most(number, 127, Refusal::NoBit),
         Question::CodePageBit(number) => at_most(number, 63, Refusal::NoBit),
-        Question::Rights => Checked::Accepted,
-        Question::StylePosition => Checked::Accepted,
-        Question::OpticalSizes => Checked::Accepted,
+        Question::Rights | Question::StylePosition | Question::OpticalSizes => Ok(()),
     }
 }
 
 // The refusal of a number above the largest.
-fn at_most(number: u32, largest: u32, why: Refusal) -> Checked
+fn at_most(number: u32, largest: u32, why: Refusal) -> Result<(), Refusal>
     ensures { said_found result ≡ when (ltb largest number) (said_refusal why) }
 {
     if largest < number {
-        return Checked::Refused(why);
+        return Err(why);
     }
-    Checked::Accepted
+    Ok(())
 }
 
 // The version that a bit of fsSelection came in with.
@@ -90,7 +88,7 @@ pub fn code_page_since(n: u32) -> u32
     pages.since as u32
 }
 
-// The case of what came in with version p. `whole` is for the three questions that are not known of a newer table.
+// The case of what came in with version p; two bytes of the table are asked, as in `os2_fields`, and no type says it. `whole` is for the three questions that are not known of a newer table.
 // It reads the table's version itself, and only where the level knows of p: the compiler then tells the cases apart by a jump each, and makes no number of them.
 pub fn case_of(table: &[u8], known: Level, p: u32, whole: bool) -> Case
     requires { 2 ≤ length table.now }

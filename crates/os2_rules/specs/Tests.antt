@@ -1,12 +1,12 @@
 -- The value rules as tests: each definition says when its rule is broken.
-use Rattle.std.specs.Prelude.{ℕ, ◌+◌, Bool, true, false, ◌&&◌, ◌||◌, List, [], ◌∷◌, ltb, leb, eqb, get_or}
+use Rattle.std.specs.Prelude.{ℕ, ◌+◌, Bool, true, false, ◌&&◌, ◌||◌, List, [], ◌∷◌, ltb, leb, eqb, get_or, Result}
 use Rattle.std.proofs.Math.Option.{Option, none, some}
 use Rattle.outcomes.specs.Firsts.{when, first_among}
-use Rattle.outcomes.specs.Outcomes.{Refusal, carrying}
+use Rattle.outcomes.specs.Outcomes.{Refusal, carrying, error_of}
 use Rattle.os2_rules.specs.Bits.{bit, bits}
 use Rattle.os2_rules.specs.declared.Values.{Values}
-use Rattle.os2_rules.specs.declared.Verdict.{Verdict}
-use Rattle.os2_rules.specs.declared.Verdict.TheVariants.{Kept, Broken}
+use Rattle.os2_rules.specs.declared.BrokenRule.{BrokenRule}
+use Rattle.os2_rules.specs.declared.BrokenRule.TheVariants.{Weight, Width, TypeBits, Rights, Selection, Regular, Sizes}
 
 -- one of the n bits of x from bit k on is set
 abbrev pub any_set : ℕ → ℕ → ℕ → Bool
@@ -54,10 +54,22 @@ broken v k = get_or (tests v) k false
 unfoldable pub verdict_of : Values → Option Refusal
 verdict_of v = first_among (λ k. when (broken v k) (carrying 3 k)) 8
 
+-- a rule's number
+abbrev pub rule_number : BrokenRule → ℕ
+rule_number Weight = 1
+rule_number Width = 2
+rule_number TypeBits = 3
+rule_number Rights = 4
+rule_number Selection = 5
+rule_number Regular = 6
+rule_number Sizes = 7
+
 -- the code's verdict in these words, and whether it is that no rule is broken
-abbrev pub said : Verdict → Option Refusal
-said Kept = none
-said (Broken k) = some (carrying 3 k)
+abbrev pub said_rule : BrokenRule → Refusal
+said_rule r = carrying 3 (rule_number r)
+
+abbrev pub said : Result (Unit {0}) BrokenRule → Option Refusal
+said r = error_of said_rule r
 
 abbrev pub kept : Option Refusal → Bool
 kept none = true

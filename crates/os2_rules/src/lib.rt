@@ -3,10 +3,10 @@
 #![tactic(auto)]
 
 ghost use Rattle.std.specs.Prelude.{◌≡◌, ◌||◌};
-ghost use Rattle.os2_rules.specs.Tests.{weight_broken, width_broken, type_broken, rights_broken, selection_broken, regular_broken, sizes_broken, verdict_of, said, kept};
+ghost use Rattle.os2_rules.specs.Tests.{weight_broken, width_broken, type_broken, rights_broken, selection_broken, regular_broken, sizes_broken, verdict_of, rule_number, said, kept};
 
 // The values that the rules look at. The optical sizes are those of version 5 and are not looked at in another.
-#[derive(Drop)]
+#[derive(Clone, Copy, Debug, PartialEq, Eq)]
 pub struct Values {
     pub version: u16,
     pub weight: u16,
@@ -17,41 +17,53 @@ pub struct Values {
     pub upper: u16,
 }
 
-// What the rules say of some values.
-#[derive(Drop)]
-pub enum Verdict {
-    // No rule is broken.
-    Kept,
-    // The first rule broken, 1 to 7.
-    Broken(u32),
+// A rule that is broken, by what it is about.
+#[derive(Clone, Copy, Debug, PartialEq, Eq)]
+pub enum BrokenRule {
+    Weight = 1,
+    Width,
+    TypeBits,
+    Rights,
+    Selection,
+    Regular,
+    Sizes,
 }
 
-// Applies the rules in order.
-pub fn judge(v: Values) -> Verdict
+impl BrokenRule {
+    // The rule's number, 1 to 7.
+    pub fn number(self) -> usize
+        ensures { result ≡ rule_number self }
+    {
+        self as usize
+    }
+}
+
+// Applies the rules in order, up to the first that is broken.
+pub fn judge(v: Values) -> Result<(), BrokenRule>
     ensures { said result ≡ verdict_of v }
 {
     if weight_broken(v.weight) {
-        return Verdict::Broken(1);
+        return Err(BrokenRule::Weight);
     }
     if width_broken(v.width) {
-        return Verdict::Broken(2);
+        return Err(BrokenRule::Width);
     }
     if type_broken(v.fstype) {
-        return Verdict::Broken(3);
+        return Err(BrokenRule::TypeBits);
     }
     if rights_broken(v.version, v.fstype) {
-        return Verdict::Broken(4);
+        return Err(BrokenRule::Rights);
     }
     if selection_broken(v.version, v.fsselection) {
-        return Verdict::Broken(5);
+        return Err(BrokenRule::Selection);
     }
     if regular_broken(v.fsselection) {
-        return Verdict::Broken(6);
+        return Err(BrokenRule::Regular);
     }
     if sizes_broken(v.version, v.lower, v.upper) {
-        return Verdict::Broken(7);
+        return Err(BrokenRule::Sizes);
     }
-    Verdict::Kept
+    Ok(())
 }
 
 // Whether no rule is broken.

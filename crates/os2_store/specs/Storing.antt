@@ -1,7 +1,7 @@
 -- What the functions that test and store one field, or all of them, ask, and what the pass over the fields finds.
-use Rattle.std.specs.Prelude.{ℕ, ◌+◌, ◌^◌, ◌<◌, ◌≤◌, ◌≡◌, List, ltb, length, ℤ}
-use Rattle.std.proofs.Math.Option.{Option, none}
-use Rattle.outcomes.specs.Firsts.{when, first_among}
+use Rattle.std.specs.Prelude.{ℕ, ◌+◌, ◌^◌, ◌<◌, ◌≤◌, ◌≡◌, List, length, ℤ, Option as Maybe, Some, None}
+use Rattle.std.proofs.Math.Option.{Option, none, some}
+use Rattle.outcomes.specs.Firsts.{first_among}
 use Rattle.outcomes.specs.Outcomes.{Refusal, carrying}
 use Rattle.level.specs.Levels.{newest}
 use Rattle.level.specs.Sizes.{table_size}
@@ -27,6 +27,7 @@ pub record Ready (v : ℕ) (xs : List ℤ) (room : ℕ) : Type 0 where
   pub fit : Fitting v xs
   pub long : table_size v ≤ room
 
--- refusal 8 with the field that a number gives; none where it is no field's
-abbrev pub misfit_found : ℕ → Option Refusal
-misfit_found k = when (ltb k field_count) (carrying 8 k)
+-- refusal 8 with the field that is found
+abbrev pub misfit_found : Maybe ℕ → Option Refusal
+misfit_found (Some k) = some (carrying 8 k)
+misfit_found None = none

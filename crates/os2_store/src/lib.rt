@@ -12,22 +12,20 @@ ghost use Rattle.os2_store.specs.Writing.{fits, code_of, misfit_at, image};
 ghost use Rattle.os2_store.specs.Storing.{Storable, Ready, misfit_found};
 ghost use Rattle.os2_fields.specs.Reading.{Wide, Sound};
 
-use os2_fields::{FIELD_COUNT, Field};
+use os2_fields::Field;
 
-// The lowest field of the version that its number does not fit, or the number of fields.
-pub fn lowest_misfit(numbers: &[i64], version: u32) -> usize
+// The lowest field of the version that its number does not fit.
+pub fn lowest_misfit(numbers: &[i64], version: u32) -> Option<usize>
     requires { length numbers.now ≡ field_count }
     ensures { misfit_found result ≡ first_among (misfit_at version numbers.now) field_count }
 {
     let fields = os2_fields::entries();
-    let mut k: usize = 0;
-    while k < FIELD_COUNT {
-        if misfits(fields[k], numbers[k], version) {
-            return k;
+    for (k, &f) in fields.iter().enumerate() {
+        if misfits(f, numbers[k], version) {
+            return Some(k);
         }
-        k += 1;
     }
-    FIELD_COUNT
+    None
 }
 
 // Whether the version has a field that its number does not fit.
@@ -35,8 +33,7 @@ fn misfits(f: Field, x: i64, version: u32) -> bool
     requires { Sound f }
     ensures { result ≡ (leb f.since version && not (fits f x)) }
 {
-    let since = f.since as u32;
-    if version < since {
+    if version < u32::from(f.since) {
         return false;
     }
     !fits(f, x)
@@ -58,13 +55,11 @@ fn top(width: u8) -> i64
     requires { Wide width }
     ensures { result ≡ pos (256 ^ width) }
 {
-    if width == 1 {
-        return 256;
+    match width {
+        1 => 256,
+        2 => 65536,
+        _ => 4294967296,
     }
-    if width == 2 {
-        return 65536;
-    }
-    4294967296
 }
 
 // Stores the fields that the version has.
@@ -73,15 +68,11 @@ pub fn store(numbers: &[i64], version: u32, room: &mut [u8])
     ensures { room.new ≡ image version numbers.now room.old field_count }
 {
     let fields = os2_fields::entries();
-    let mut k: usize = 0;
-    while k < FIELD_COUNT {
-        let f = fields[k];
-        let came = f.since as u32;
-        if version < came {
+    for (k, &f) in fields.iter().enumerate() {
+        if version < u32::from(f.since) {
             return;
         }
         put(room, f, code(f, numbers[k]));
-        k += 1;
     }
 }
 
@@ -101,15 +92,10 @@ fn put(room: &mut [u8], f: Field, code: u32)
     requires { Storable room.old f code }
     ensures { room.new ≡ stored f.width room.old f.offset code }
 {
-    let at = f.offset as usize;
-    let width = f.width;
-    if width == 1 {
-        room[at] = code as u8;
-        return;
+    let at = usize::from(f.offset);
+    match f.width {
+        1 => room[at] = code as u8,
+        2 => bigendian::store_u16(room, at, code as u16),
+        _ => bigendian::store_u32(room, at, code),
     }
-    if width == 2 {
-        bigendian::store_u16(room, at, code as u16);
-        return;
-    }
-    bigendian::store_u32(room, at, code);
 }

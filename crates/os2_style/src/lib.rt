@@ -7,7 +7,7 @@ ghost use Rattle.os2_rules.specs.Rules.{WidthRule};
 ghost use Rattle.os2_style.specs.Style.{rights_of, rights_number, float, percent_of, points, sizes_of, said_sizes};
 
 // Document 01's rights, by the highest of fsType's bits 1 to 3 that is set, the least restrictive one.
-#[derive(Drop)]
+#[derive(Clone, Copy, Debug, PartialEq, Eq)]
 pub enum EmbeddingRights {
     // None is set.
     Installable,
@@ -24,24 +24,19 @@ impl EmbeddingRights {
     pub fn number(self) -> u32
         ensures { result ≡ rights_number self }
     {
-        match self {
-            EmbeddingRights::Installable => 0,
-            EmbeddingRights::Restricted => 1,
-            EmbeddingRights::Preview => 2,
-            EmbeddingRights::Editable => 3,
-        }
+        self as u32
     }
 }
 
 // Document 01's style position: the weight class, and the width class in percent.
-#[derive(Drop)]
+#[derive(Clone, Copy, Debug, PartialEq)]
 pub struct StylePosition {
     pub weight: f32,
     pub width: f32,
 }
 
 // Optical sizes, in points.
-#[derive(Drop)]
+#[derive(Clone, Copy, Debug, PartialEq)]
 pub enum OpticalSizes {
     // Every size.
     Every,
@@ -85,7 +80,7 @@ fn percent(width: u16) -> f32
     }
 }
 
-// The style position, from the weight and the width class.
+// The style position, from the weight and the width class. The class, here and in `os2_figures`, is a plain number from 1 to 9: it is read from a table and handed on once.
 pub fn position_of(weight: u16, width: u16) -> StylePosition
     requires { WidthRule width }
     ensures { (result.weight ≡ float weight) × (result.width ≡ percent_of width) }

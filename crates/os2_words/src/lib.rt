@@ -1,26 +1,21 @@
-// The answers on an 'OS/2' table, and those of the writer, in the words of C.
+// The answers on an 'OS/2' table, and those of the writers of either table, in the words of C.
 // Document 01, "Questions on an accepted OS/2 table" and "The writer"; `gv_number`, `gv_rights`, `gv_style`, `gv_optical` and `gv_written`
 // in `include/gyalvindor.h`.
-// Relies on `refusal_words` for a refusal's words, and on `os2` and `os2_writer` for what an answer says.
+// Relies on `refusal_words` for a refusal's words, and on `os2` for what an answer says.
 #![tactic(auto)]
 
-ghost use Rattle.std.specs.Prelude.{◌≡◌};
-ghost use Rattle.outcomes.specs.Outcomes.{answered};
+ghost use Rattle.std.specs.Prelude.{◌≡◌, IfOk, IfErr};
+ghost use Rattle.outcomes.specs.declared.Told.{Told};
+ghost use Rattle.outcomes.specs.Outcomes.{answered, refusing, refusal_of};
 ghost use Rattle.os2_style.specs.Style.{said_sizes};
-ghost use Rattle.os2_acceptance.specs.Replies.{said_check};
 ghost use Rattle.os2_answers.specs.Values.{value, sizes};
 ghost use Rattle.os2.specs.Replies.{said_reply, said_rights_reply, said_style_reply, said_optical_reply};
-ghost use Rattle.os2_writer.specs.Replies.{said_written, said_rewritten};
-ghost use Rattle.refusal_words.specs.Words.{outcome_refusal};
 ghost use Rattle.os2_words.specs.Words.{number_words, rights_words, style_words, optical_words, written_words};
 
-use os2::{
-    Answer, Checked, OpticalAnswer, OpticalReply, Reply, RightsAnswer, RightsReply, StyleAnswer,
-    StyleReply,
-};
-use os2_style::OpticalSizes;
-use os2_writer::{Rewritten, Written};
-use refusal_words::{GvRefusal, NO_REFUSAL, told_words};
+use os2::{Answer, Reply};
+use os2_style::{EmbeddingRights, OpticalSizes, StylePosition};
+use outcomes::Told;
+use refusal_words::{GvRefusal, NO_REFUSAL};
 
 // What an answer on an 'OS/2' table is: none, the call being refused; a value; absent; not known.
 const REFUSED: u32 = 0;
@@ -33,13 +28,14 @@ const NOT_KNOWN: u32 = 3;
 
 // The answer on a field or a bit.
 #[repr(C)]
-#[derive(Drop)]
+#[derive(Clone, Copy, Debug, PartialEq)]
 pub struct GvNumber {
     pub refusal: GvRefusal,
     pub kind: u32,
     pub value: i64,
 }
 
+// `new`, here and below: a proof can hardly rewrite a struct that is made of what a call gives.
 impl GvNumber {
     fn new(refusal: GvRefusal, kind: u32, number: i64) -> GvNumber
         ensures { result ≡ record { refusal = refusal; kind = kind; value = number } }
@@ -54,7 +50,7 @@ impl GvNumber {
 
 // The answer on rights: 0 installable, 1 restricted, 2 preview, 3 editable.
 #[repr(C)]
-#[derive(Drop)]
+#[derive(Clone, Copy, Debug, PartialEq)]
 pub struct GvRights {
     pub refusal: GvRefusal,
     pub kind: u32,
@@ -75,7 +71,7 @@ impl GvRights {
 
 // The answer on the style position: the weight, and the width in percent.
 #[repr(C)]
-#[derive(Drop)]
+#[derive(Clone, Copy, Debug, PartialEq)]
 pub struct GvStyle {
     pub refusal: GvRefusal,
     pub kind: u32,
@@ -107,7 +103,7 @@ const BETWEEN: u32 = 3;
 
 // The answer on optical sizes, in points.
 #[repr(C)]
-#[derive(Drop)]
+#[derive(Clone, Copy, Debug, PartialEq)]
 pub struct GvOptical {
     pub refusal: GvRefusal,
     pub kind: u32,
@@ -130,9 +126,9 @@ impl GvOptical {
     }
 }
 
-// The answer of the writer and of rewriting: the bytes written.
+// The answer of a writer and of rewriting: the bytes written.
 #[repr(C)]
-#[derive(Drop)]
+#[derive(Clone, Copy, Debug, PartialEq)]
 pub struct GvWritten {
     pub refusal: GvRefusal,
     pub size: usize,
@@ -148,23 +144,13 @@ impl GvWritten {
 
 // ---- the reader's answers in words
 
-// What the check says.
-pub fn checked_words(verdict: Checked) -> GvRefusal
-    ensures { result ≡ outcome_refusal (said_check verdict) }
-{
-    match verdict {
-        Checked::Accepted => NO_REFUSAL,
-        Checked::Refused(why) => told_words(why.told()),
-    }
-}
-
-// What a question on a field or a bit says.
-pub fn number_words(reply: Reply) -> GvNumber
+// What a question on a field or a bit says. In C each of the four answers is a struct of its own.
+pub fn number_words(reply: Reply<i64>) -> GvNumber
     ensures { result ≡ number_words (said_reply reply) }
 {
     match reply {
-        Reply::Refused(why) => GvNumber::new(told_words(why.told()), REFUSED, 0),
-        Reply::Answered(answer) => match answer {
+        Err(why) => GvNumber::new(GvRefusal::from(Told::from(why)), REFUSED, 0),
+        Ok(answer) => match answer {
             Answer::Value(value) => GvNumber::new(NO_REFUSAL, VALUE, value),
             Answer::Absent => GvNumber::new(NO_REFUSAL, ABSENT, 0),
             Answer::NotKnown => GvNumber::new(NO_REFUSAL, NOT_KNOWN, 0),
@@ -173,51 +159,48 @@ pub fn number_words(reply: Reply) -> GvNumber
 }
 
 // What the question on rights says.
-pub fn rights_words(reply: RightsReply) -> GvRights
+pub fn rights_words(reply: Reply<EmbeddingRights>) -> GvRights
     ensures { result ≡ rights_words (said_rights_reply reply) }
 {
     match reply {
-        RightsReply::Refused(why) => GvRights::new(told_words(why.told()), REFUSED, 0),
-        RightsReply::Answered(answer) => match answer {
-            RightsAnswer::Value(rights) => GvRights::new(NO_REFUSAL, VALUE, rights.number()),
-            RightsAnswer::Absent => GvRights::new(NO_REFUSAL, ABSENT, 0),
-            RightsAnswer::NotKnown => GvRights::new(NO_REFUSAL, NOT_KNOWN, 0),
+        Err(why) => GvRights::new(GvRefusal::from(Told::from(why)), REFUSED, 0),
+        Ok(answer) => match answer {
+            Answer::Value(rights) => GvRights::new(NO_REFUSAL, VALUE, rights.number()),
+            Answer::Absent => GvRights::new(NO_REFUSAL, ABSENT, 0),
+            Answer::NotKnown => GvRights::new(NO_REFUSAL, NOT_KNOWN, 0),
         },
     }
 }
 
 // What the question on the style position says.
-pub fn style_words(reply: StyleReply) -> GvStyle
+pub fn style_words(reply: Reply<StylePosition>) -> GvStyle
     ensures { result ≡ style_words (said_style_reply reply) }
 {
     match reply {
-        StyleReply::Refused(why) => GvStyle::new(told_words(why.told()), REFUSED, 0.0, 0.0),
-        StyleReply::Answered(answer) => match answer {
-            StyleAnswer::Value(position) => {
+        Err(why) => GvStyle::new(GvRefusal::from(Told::from(why)), REFUSED, 0.0, 0.0),
+        Ok(answer) => match answer {
+            Answer::Value(position) => {
                 GvStyle::new(NO_REFUSAL, VALUE, position.weight, position.width)
             }
-            StyleAnswer::Absent => GvStyle::new(NO_REFUSAL, ABSENT, 0.0, 0.0),
-            StyleAnswer::NotKnown => GvStyle::new(NO_REFUSAL, NOT_KNOWN, 0.0, 0.0),
+            Answer::Absent => GvStyle::new(NO_REFUSAL, ABSENT, 0.0, 0.0),
+            Answer::NotKnown => GvStyle::new(NO_REFUSAL, NOT_KNOWN, 0.0, 0.0),
         },
     }
 }
 
 // What the question on optical sizes says.
-pub fn optical_words(reply: OpticalReply) -> GvOptical
+pub fn optical_words(reply: Reply<OpticalSizes>) -> GvOptical
     ensures { result ≡ optical_words (said_optical_reply reply) }
 {
     match reply {
-        OpticalReply::Refused(why) => GvOptical::new(
-            told_words(why.told()),
-            REFUSED,
-            NO_SIZES,
-            0.0,
-            0.0,
-        ),
-        OpticalReply::Answered(answer) => match answer {
-            OpticalAnswer::Value(found) => sizes_words(found),
-            OpticalAnswer::Absent => GvOptical::new(NO_REFUSAL, ABSENT, NO_SIZES, 0.0, 0.0),
-            OpticalAnswer::NotKnown => GvOptical::new(NO_REFUSAL, NOT_KNOWN, NO_SIZES, 0.0, 0.0),
+        Err(why) => {
+            let refusal = GvRefusal::from(Told::from(why));
+            GvOptical::new(refusal, REFUSED, NO_SIZES, 0.0, 0.0)
+        }
+        Ok(answer) => match answer {
+            Answer::Value(found) => sizes_words(found),
+            Answer::Absent => GvOptical::new(NO_REFUSAL, ABSENT, NO_SIZES, 0.0, 0.0),
+            Answer::NotKnown => GvOptical::new(NO_REFUSAL, NOT_KNOWN, NO_SIZES, 0.0, 0.0),
         },
     }
 }
@@ -235,25 +218,15 @@ fn sizes_words(found: OpticalSizes) -> GvOptical
     }
 }
 
-// ---- the writer's answers in words
+// ---- the writers' answers in words
 
-// What the writer says.
-pub fn written_words(done: Written) -> GvWritten
-    ensures { result ≡ written_words (said_written done) }
+// What a writer says, whatever its refusals are: that of an 'OS/2' table, the rewriting of one, and that of a 'name' table.
+pub fn written_words<E: Into<Told>>(done: Result<usize, E>) -> GvWritten
+    ensures written { IfOk done (λ size. result ≡ written_words (answered size)) }
+    ensures refused { IfErr done (λ why. (told : Told) × E.converts why told × (result ≡ written_words (refusing (refusal_of told)))) }
 {
     match done {
-        Written::Size(size) => GvWritten::new(NO_REFUSAL, size),
-        Written::Refused(why) => GvWritten::new(told_words(why.told()), 0),
-    }
-}
-
-// What the rewriting of a table says.
-pub fn rewritten_words(done: Rewritten) -> GvWritten
-    ensures { result ≡ written_words (said_rewritten done) }
-{
-    match done {
-        Rewritten::Size(size) => GvWritten::new(NO_REFUSAL, size),
-        Rewritten::Unread(why) => GvWritten::new(told_words(why.told()), 0),
-        Rewritten::Unwritten(why) => GvWritten::new(told_words(why.told()), 0),
+        Ok(size) => GvWritten::new(NO_REFUSAL, size),
+        Err(why) => GvWritten::new(GvRefusal::from(why.into()), 0),
     }
 }

@@ -1,8 +1,8 @@
 -- The tests and casts of an i64 in the code, and the definitions that they stand for: each by the number's two forms.
 -- Assumes nothing.
 use Prim.Native.Nat.{◌^◌, ◌<◌, ◌≤◌}
-use mathlib.Core.Path.{◌≡◌, refl}
-use mathlib.Core.Bool.{true, false, true≢false}
+use mathlib.Core.Path.{◌≡◌, refl, sym, ap, ◌∙◌}
+use mathlib.Core.Bool.{Bool, true, false, true≢false}
 use native.Mathlib.Omega.{arith}
 use lib.IntN.{ℤ, pos, negsuc, nat_abs}
 use lib.Signed.{lt_z}
@@ -35,3 +35,8 @@ version_known x h e = rw (kept x h) (go x e)
     go : (z : ℤ) → no_version z ≡ false → (z ≡ pos (nat_abs z)) × (nat_abs z ≤ newest)
     go (pos n) d = (refl, ltb-false newest n d)
     go (negsuc n) d = absurd (true≢false d)
+
+-- the same once the code's test of a number has failed
+pub version_here : (x : ℤ) → SFits w64 x → {t : Bool} → t ≡ no_version (to_z w64 (of_z w64 x)) → t ≡ false →
+    (x ≡ pos (nat_abs (to_z w64 (of_z w64 x)))) × (nat_abs (to_z w64 (of_z w64 x)) ≤ newest)
+version_here x h e d = version_known x h (ap no_version (sym (kept x h)) ∙ (sym e ∙ d))

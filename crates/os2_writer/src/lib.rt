@@ -13,114 +13,130 @@ ghost use Rattle.os2_fields.specs.Fields.{optical_size, values_of};
 ghost use Rattle.os2_acceptance.specs.Acceptance.{judged};
 ghost use Rattle.os2_store.specs.Writing.{code_for, version_for, no_version, write, room_after};
 ghost use Rattle.os2_store.specs.Storing.{Fitting};
-ghost use Rattle.os2_writer.specs.Replies.{said_refusal, said_written, said_rewritten, side_of};
+ghost use Rattle.os2_writer.specs.Replies.{said_refusal, said_rewrite_refusal, said_written, said_rewritten, side_of};
 ghost use Rattle.os2_writer.specs.Rewriting.{Reading, rewritten, room_rewritten, side_for};
 ghost use Rattle.os2_writer.specs.Values.{WordFor};
+ghost use Rattle.os2_writer.specs.declared.WriteRefusal.TheVariants.{RuleBroken};
+ghost use Rattle.os2_writer.specs.declared.RewriteRefusal.TheVariants.{Unread, Unwritten};
 
 use level::Level;
-use os2_acceptance::Checked;
 use os2_fields::{
     FIELD_COUNT, FSSELECTION, FSTYPE, LOWER_SIZE, UPPER_SIZE, VERSION, WEIGHT, WIDTH,
 };
-use os2_rules::{Values, Verdict};
+use os2_rules::{BrokenRule, Values};
 use outcomes::Told;
 
 // Why nothing is written.
-#[derive(Drop)]
+#[derive(Clone, Copy, Debug, PartialEq, Eq)]
 pub enum WriteRefusal {
     // 4: the version is outside 0 to 5.
     NoVersion,
     // 5: the room is shorter than the version's size.
     NoRoom,
     // 8: a value does not fit its field; carries the lowest such field.
-    DoesNotFit(u32),
-    // 3: a value rule is broken; carries the first, 1 to 7.
-    RuleBroken(u32),
+    DoesNotFit(usize),
+    // 3: a value rule is broken; this is the first.
+    RuleBroken(BrokenRule),
 }
 
-impl WriteRefusal {
-    // Its number, and what it carries.
-    pub fn told(self) -> Told
-        ensures { refusal_of result ≡ said_refusal self }
-    {
-        match self {
+impl From<BrokenRule> for WriteRefusal {
+    ghost from_gives = { λ rule r. r ≡ RuleBroken rule };
+
+    fn from(rule: BrokenRule) -> WriteRefusal {
+        WriteRefusal::RuleBroken(rule)
+    }
+}
+
+// Its number, and what it carries.
+impl From<WriteRefusal> for Told {
+    ghost from_gives = { λ why told. refusal_of told ≡ said_refusal why };
+
+    fn from(why: WriteRefusal) -> Told {
+        match why {
             WriteRefusal::NoVersion => Told::bare(4),
             WriteRefusal::NoRoom => Told::bare(5),
-            WriteRefusal::DoesNotFit(field) => Told::carrying(8, field as usize),
-            WriteRefusal::RuleBroken(rule) => Told::carrying(3, rule as usize),
+            WriteRefusal::DoesNotFit(field) => Told::carrying(8, field),
+            WriteRefusal::RuleBroken(rule) => Told::carrying(3, rule.number()),
         }
     }
 }
 
-// What came of writing.
-#[derive(Drop)]
-pub enum Written {
-    // The bytes written: the version's size.
-    Size(usize),
-    Refused(WriteRefusal),
-}
-
-// What came of rewriting.
-#[derive(Drop)]
-pub enum Rewritten {
-    // The bytes written: the size of the table's version.
-    Size(usize),
+// Why nothing is rewritten, and which of the two refuses.
+#[derive(Clone, Copy, Debug, PartialEq, Eq)]
+pub enum RewriteRefusal {
     // The reader's refusal at level 5: 2, or 3 with the first rule broken.
     Unread(os2_acceptance::Refusal),
     // The writer's refusal: 4, the table's version being above 5, or 5.
     Unwritten(WriteRefusal),
 }
 
-// Writes the table of 48 whole numbers, of which number 0 is the version, and answers its size.
-pub fn write(numbers: [i64; FIELD_COUNT], room: &mut [u8]) -> Written
-    ensures { (said_written result ≡ write numbers (length room.old)) × (room.new ≡ room_after numbers room.old) }
-{
-    match check(&numbers, room.len()) {
-        Written::Refused(why) => Written::Refused(why),
-        Written::Size(size) => {
-            let version = numbers[VERSION] as u32;
-            os2_store::store(&numbers, version, room);
-            Written::Size(size)
+impl From<os2_acceptance::Refusal> for RewriteRefusal {
+    ghost from_gives = { λ why r. r ≡ Unread why };
+
+    fn from(why: os2_acceptance::Refusal) -> RewriteRefusal {
+        RewriteRefusal::Unread(why)
+    }
+}
+
+impl From<WriteRefusal> for RewriteRefusal {
+    ghost from_gives = { λ why r. r ≡ Unwritten why };
+
+    fn from(why: WriteRefusal) -> RewriteRefusal {
+        RewriteRefusal::Unwritten(why)
+    }
+}
+
+// The number of either, and what it carries.
+impl From<RewriteRefusal> for Told {
+    ghost from_gives = { λ why told. refusal_of told ≡ said_rewrite_refusal why };
+
+    fn from(why: RewriteRefusal) -> Told {
+        match why {
+            RewriteRefusal::Unread(refusal) => Told::from(refusal),
+            RewriteRefusal::Unwritten(refusal) => Told::from(refusal),
         }
     }
 }
 
-// Reads the fields of a table's version at level 5 and writes them. It says which of the two refuses.
-pub fn rewrite(table: &[u8], room: &mut [u8]) -> Rewritten
+// Writes the table of 48 whole numbers, of which number 0 is the version, and answers how many bytes: the version's size.
+pub fn write(numbers: [i64; FIELD_COUNT], room: &mut [u8]) -> Result<usize, WriteRefusal>
+    ensures { (said_written result ≡ write numbers (length room.old)) × (room.new ≡ room_after numbers room.old) }
+{
+    let size = check(&numbers, room.len())?;
+    let version = numbers[VERSION] as u32;
+    os2_store::store(&numbers, version, room);
+    Ok(size)
+}
+
+// Reads the fields of a table's version at level 5 and writes them; answers how many bytes: the size of that version. A refusal says which of the two refuses.
+pub fn rewrite(table: &[u8], room: &mut [u8]) -> Result<usize, RewriteRefusal>
     ensures { (said_rewritten result ≡ rewritten table.now (length room.old)) ×
         (room.new ≡ room_rewritten table.now room.old) × (side_of result ≡ side_for table.now) }
 {
-    match os2_acceptance::judge(table, Level::NEWEST) {
-        Checked::Refused(why) => Rewritten::Unread(why),
-        Checked::Accepted => match write(read(table), room) {
-            Written::Size(size) => Rewritten::Size(size),
-            Written::Refused(why) => Rewritten::Unwritten(why),
-        },
-    }
+    os2_acceptance::judge(table, Level::NEWEST)?;
+    let size = write(read(table), room)?;
+    Ok(size)
 }
 
 // The four refusals, or the size.
-fn check(numbers: &[i64], room: usize) -> Written
+fn check(numbers: &[i64], room: usize) -> Result<usize, WriteRefusal>
     requires { length numbers.now ≡ field_count }
     ensures { said_written result ≡ write numbers.now room }
 {
     let first = numbers[VERSION];
     if no_version(first) {
-        return Written::Refused(WriteRefusal::NoVersion);
+        return Err(WriteRefusal::NoVersion);
     }
     let version = first as u32;
     let size = level::version_size(version);
     if room < size {
-        return Written::Refused(WriteRefusal::NoRoom);
+        return Err(WriteRefusal::NoRoom);
     }
-    let k = os2_store::lowest_misfit(numbers, version);
-    if k < FIELD_COUNT {
-        return Written::Refused(WriteRefusal::DoesNotFit(k as u32));
+    if let Some(field) = os2_store::lowest_misfit(numbers, version) {
+        return Err(WriteRefusal::DoesNotFit(field));
     }
-    match os2_rules::judge(values(numbers, version)) {
-        Verdict::Kept => Written::Size(size),
-        Verdict::Broken(rule) => Written::Refused(WriteRefusal::RuleBroken(rule)),
-    }
+    os2_rules::judge(values(numbers, version))?;
+    Ok(size)
 }
 
 // Refusal 4's test.
@@ -173,15 +189,11 @@ fn read(table: &[u8]) -> [i64; FIELD_COUNT]
     let fields = os2_fields::entries();
     let version = os2_fields::version(table);
     let mut numbers: [i64; FIELD_COUNT] = [0; FIELD_COUNT];
-    let mut k: usize = 0;
-    while k < FIELD_COUNT {
-        let f = fields[k];
-        let since = f.since as u16;
-        if version < since {
+    for (k, &f) in fields.iter().enumerate() {
+        if version < u16::from(f.since) {
             return numbers;
         }
         numbers[k] = os2_fields::value(table, f);
-        k += 1;
     }
     numbers
 }

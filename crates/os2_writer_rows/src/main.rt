@@ -6,17 +6,13 @@
 
 use os2::{Answer, Reply};
 use os2_fields::FIELD_COUNT;
-use os2_writer::{Rewritten, Written};
-use outcomes::{Carried, Told};
+use outcomes::Told;
 use std::io;
 
 fn main(rt: HostRuntime) -> io::Result<()> {
-    version(&rt, 0)?;
-    version(&rt, 1)?;
-    version(&rt, 2)?;
-    version(&rt, 3)?;
-    version(&rt, 4)?;
-    version(&rt, 5)?;
+    for number in 0..6 {
+        version(&rt, number)?;
+    }
     versions_refused(&rt)?;
     room_refused(&rt)?;
     room_refused_first(&rt)?;
@@ -61,39 +57,31 @@ fn version(rt: &impl Print, version: i64) -> io::Result<()> {
 // Numbers written, read back field by field, and rewritten into another room.
 fn round_trip(rt: &impl Print, numbers: [i64; FIELD_COUNT]) -> io::Result<()> {
     let mut room: [u8; 101] = [170; 101];
-    say(rt, os2_writer::write(numbers, &mut room))?;
+    say(rt, "written", os2_writer::write(numbers, &mut room))?;
     ends(rt, room[0], room[100])?;
     read_back(rt, numbers, &room)?;
     let mut other: [u8; 101] = [170; 101];
-    say_rewritten(rt, os2_writer::rewrite(&room, &mut other))?;
+    say(rt, "rewritten", os2_writer::rewrite(&room, &mut other))?;
     ends(rt, other[0], other[100])?;
     read_back(rt, numbers, &other)
 }
 
-// A sign for each field, read at level 5: = for its number, - for absent, ! for anything else.
+// A sign for each field, read at level 5.
 fn read_back(rt: &impl Print, numbers: [i64; FIELD_COUNT], table: &[u8]) -> io::Result<()> {
-    let mut k: usize = 0;
-    while k < FIELD_COUNT {
-        let sign = mark(os2::field(table, 5, k as u32), numbers[k]);
-        text(rt, &[sign])?;
-        k += 1;
+    for (k, &number) in numbers.iter().enumerate() {
+        print!(rt; "{}", sign(os2::field(table, 5, k as u32), number))?;
     }
-    text(rt, b"\n")
+    println!(rt)
 }
 
-fn mark(reply: Reply, number: i64) -> u8 {
-    let Reply::Answered(answer) = reply else {
-        return b'!';
-    };
-    match answer {
-        Answer::Value(x) => {
-            if x == number {
-                return b'=';
-            }
-            b'!'
-        }
-        Answer::Absent => b'-',
-        Answer::NotKnown => b'!',
+// = for the number, - for absent, ! for anything else.
+fn sign(reply: Reply<i64>, number: i64) -> &'static str {
+    if reply == Ok(Answer::Value(number)) {
+        return "=";
+    }
+    match reply {
+        Ok(Answer::Absent) => "-",
+        _ => "!",
     }
 }
 
@@ -102,14 +90,14 @@ fn versions_refused(rt: &impl Print) -> io::Result<()> {
     row(rt, sample(6))?;
     row(rt, sample(-1))?;
     let mut room: [u8; 1] = [170; 1];
-    say(rt, os2_writer::write(sample(6), &mut room))?;
+    say(rt, "written", os2_writer::write(sample(6), &mut room))?;
     end(rt, room[0])
 }
 
 // A room one byte too short.
 fn room_refused(rt: &impl Print) -> io::Result<()> {
     let mut room: [u8; 77] = [170; 77];
-    say(rt, os2_writer::write(sample(0), &mut room))?;
+    say(rt, "written", os2_writer::write(sample(0), &mut room))?;
     end(rt, room[0])
 }
 
@@ -118,7 +106,7 @@ fn room_refused_first(rt: &impl Print) -> io::Result<()> {
     let mut room: [u8; 99] = [170; 99];
     let mut numbers = sample(5);
     numbers[2] = 70000;
-    say(rt, os2_writer::write(numbers, &mut room))?;
+    say(rt, "written", os2_writer::write(numbers, &mut room))?;
     end(rt, room[0])
 }
 
@@ -162,24 +150,16 @@ fn rewriting_without_room(rt: &impl Print) -> io::Result<()> {
     table[5] = 1;
     table[7] = 1;
     let mut room: [u8; 77] = [170; 77];
-    say_rewritten(rt, os2_writer::rewrite(&table, &mut room))?;
+    say(rt, "rewritten", os2_writer::rewrite(&table, &mut room))?;
     end(rt, room[0])
 }
 
 // Each setting of fsType's bits 1 to 3, which exclude each other only from version 3 on.
 fn rights(rt: &impl Print, version: i64) -> io::Result<()> {
-    rights_row(rt, version, 0)?;
-    rights_row(rt, version, 2)?;
-    rights_row(rt, version, 4)?;
-    rights_row(rt, version, 6)?;
-    rights_row(rt, version, 8)?;
-    rights_row(rt, version, 10)?;
-    rights_row(rt, version, 12)?;
-    rights_row(rt, version, 14)
-}
-
-fn rights_row(rt: &impl Print, version: i64, fstype: i64) -> io::Result<()> {
-    row(rt, sample_with(version, fstype))
+    for fstype in [0, 2, 4, 6, 8, 10, 12, 14] {
+        row(rt, sample_with(version, fstype))?;
+    }
+    Ok(())
 }
 
 // The same numbers with this fsType.
@@ -192,76 +172,37 @@ fn sample_with(version: i64, fstype: i64) -> [i64; FIELD_COUNT] {
 // A table rewritten into a room that is long enough for every version.
 fn rewriting(rt: &impl Print, table: &[u8]) -> io::Result<()> {
     let mut room: [u8; 101] = [170; 101];
-    say_rewritten(rt, os2_writer::rewrite(table, &mut room))?;
+    say(rt, "rewritten", os2_writer::rewrite(table, &mut room))?;
     ends(rt, room[0], room[100])
 }
 
 // The numbers written into a room that is long enough for every version.
 fn row(rt: &impl Print, numbers: [i64; FIELD_COUNT]) -> io::Result<()> {
     let mut room: [u8; 101] = [170; 101];
-    say(rt, os2_writer::write(numbers, &mut room))?;
+    say(rt, "written", os2_writer::write(numbers, &mut room))?;
     ends(rt, room[0], room[100])
 }
 
-fn say(rt: &impl Print, written: Written) -> io::Result<()> {
-    match written {
-        Written::Size(size) => {
-            size_line(rt, b"written ", size)?;
-        }
-        Written::Refused(why) => {
-            refused(rt, why.told())?;
-        }
+// The size, or document 01's number and what the refusal carries.
+fn say<E: Into<Told>>(rt: &impl Print, word: &str, size: Result<usize, E>) -> io::Result<()> {
+    match size {
+        Ok(size) => print!(rt; "{word} {size}"),
+        Err(why) => refused(rt, why.into()),
     }
-    Ok(())
 }
 
-fn say_rewritten(rt: &impl Print, rewritten: Rewritten) -> io::Result<()> {
-    match rewritten {
-        Rewritten::Size(size) => {
-            size_line(rt, b"rewritten ", size)?;
-        }
-        Rewritten::Unread(why) => {
-            refused(rt, why.told())?;
-        }
-        Rewritten::Unwritten(why) => {
-            refused(rt, why.told())?;
-        }
-    }
-    Ok(())
-}
-
-// Document 01's number, and what the refusal carries.
 fn refused(rt: &impl Print, why: Told) -> io::Result<()> {
-    number(rt, b"refused ", why.number)?;
-    let carried = why.carried;
-    match carried {
-        Carried::This(place) => size_line(rt, b" at ", place)?,
-        Carried::Nothing => {}
+    print!(rt; "refused {}", why.number)?;
+    match why.carried {
+        Some(place) => print!(rt; " at {place}"),
+        None => Ok(()),
     }
-    Ok(())
-}
-
-fn size_line(rt: &impl Print, word: &[u8], size: usize) -> io::Result<()> {
-    text(rt, word)?;
-    print!(rt; "{size}")
-}
-
-fn number(rt: &impl Print, word: &[u8], n: u32) -> io::Result<()> {
-    text(rt, word)?;
-    print!(rt; "{n}")
 }
 
 fn ends(rt: &impl Print, first: u8, last: u8) -> io::Result<()> {
-    number(rt, b", room ", first as u32)?;
-    number(rt, b" ", last as u32)?;
-    text(rt, b"\n")
+    println!(rt; ", room {first} {last}")
 }
 
 fn end(rt: &impl Print, first: u8) -> io::Result<()> {
-    number(rt, b", room ", first as u32)?;
-    text(rt, b"\n")
-}
-
-fn text(rt: &impl Print, bytes: &[u8]) -> io::Result<()> {
-    rt.write_all(bytes)
+    println!(rt; ", room {first}")
 }

@@ -1,8 +1,6 @@
 -- What any call says, in document 01's numbers. "A refusal returns its number and what it carries, and no partial result."
-use Rattle.std.specs.Prelude.{ℕ}
+use Rattle.std.specs.Prelude.{ℕ, Option as Maybe, Some, None, Result, Ok, Err}
 use Rattle.std.proofs.Math.Option.{Option, none, some}
-use Rattle.outcomes.specs.declared.Carried.{Carried}
-use Rattle.outcomes.specs.declared.Carried.TheVariants.{Nothing, This}
 use Rattle.outcomes.specs.declared.Told.{Told}
 
 -- a refusal: its number, and what it carries
@@ -40,10 +38,21 @@ unfoldable pub found_or : {A B : Type 0} → Refusal → Option A → (A → Out
 found_or r (some x) f = f x
 found_or r none f = refusing r
 
--- the code's refusal in these words
-abbrev pub carried_of : Carried → Option ℕ
-carried_of Nothing = none
-carried_of (This k) = some k
+-- what the code may have or may lack
+abbrev pub option_of : {A : Type 0} → Maybe A → Option A
+option_of (Some x) = some x
+option_of None = none
 
+-- the code's refusal in these words
 abbrev pub refusal_of : Told → Refusal
-refusal_of t = record { number = t.number; carried = carried_of t.carried }
+refusal_of t = record { number = t.number; carried = option_of t.carried }
+
+-- what a call of the code says, from what its value stands for and which refusal its error is
+abbrev pub outcome_of : {T E A : Type 0} → (T → A) → (E → Refusal) → Result T E → Outcome A
+outcome_of value why (Ok x) = answered (value x)
+outcome_of value why (Err e) = refusing (why e)
+
+-- the refusal that a check of the code finds, where it finds one
+abbrev pub error_of : {T E : Type 0} → (E → Refusal) → Result T E → Option Refusal
+error_of why (Ok x) = none
+error_of why (Err e) = some (why e)

@@ -5,19 +5,11 @@
 ghost use Rattle.std.specs.Prelude.{◌≡◌};
 ghost use Rattle.outcomes.specs.Outcomes.{bare, carrying, refusal_of};
 
-// What a refusal carries beside its number.
-#[derive(Drop)]
-pub enum Carried {
-    Nothing,
-    // A record, a tag, a rule or a field, as the number says.
-    This(usize),
-}
-
-// A refusal: document 01's number, and what it carries.
-#[derive(Drop)]
+// A refusal: document 01's number, and what it carries beside it, a record, a tag, a rule or a field, as the number says.
+#[derive(Clone, Copy, Debug, PartialEq, Eq)]
 pub struct Told {
     pub number: u32,
-    pub carried: Carried,
+    pub carried: Option<usize>,
 }
 
 impl Told {
@@ -27,7 +19,7 @@ impl Told {
     {
         Told {
             number,
-            carried: Carried::Nothing,
+            carried: None,
         }
     }
 
@@ -37,7 +29,7 @@ impl Told {
     {
         Told {
             number,
-            carried: Carried::This(this),
+            carried: Some(this),
         }
     }
 }

@@ -11,7 +11,6 @@ mod name_rows;
 mod os2_rows;
 mod pieces;
 
-use pieces::{byte_at, line_end, text};
 use std::io;
 
 fn main(rt: HostRuntime) -> io::Result<()> {
@@ -20,37 +19,35 @@ fn main(rt: HostRuntime) -> io::Result<()> {
     rows(&rt, &lines[..n])
 }
 
+// A row for each line. The first line stands for the table where none has come yet.
 fn rows(rt: &impl Print, lines: &[u8]) -> io::Result<()> {
-    let mut table = 0;
-    let mut start = 0;
-    while start < lines.len() {
-        let end = line_end(lines, start);
-        table = pieces::latest_table(lines, start, table);
-        let table_end = line_end(lines, table);
-        row(rt, &lines[start..end], &lines[table..table_end])?;
-        start = end + 1;
+    let mut table = lines.split(|byte| *byte == b'\n').next().unwrap_or(lines);
+    for piece in lines.split_inclusive(|byte| *byte == b'\n') {
+        let line = piece.strip_suffix(b"\n").unwrap_or(piece);
+        if line.starts_with(b"=") {
+            table = line;
+        }
+        row(rt, line, table)?;
     }
     Ok(())
 }
 
 // Writes a line, and the answer where it is a question.
 fn row(rt: &impl Print, line: &[u8], table: &[u8]) -> io::Result<()> {
-    let kind = byte_at(line, 0);
-    if kind == b'=' {
+    if line.starts_with(b"=") {
         return Ok(());
     }
-    text(rt, line)?;
-    if kind != b'#' {
-        text(rt, b": ")?;
+    rt.write_all(line)?;
+    if !line.starts_with(b"#") {
+        print!(rt; ": ")?;
         answer(rt, line, table)?;
     }
-    text(rt, b"\n")
+    println!(rt)
 }
 
 fn answer(rt: &impl Print, question: &[u8], table: &[u8]) -> io::Result<()> {
-    if byte_at(table, 2) == b'o' {
-        os2_rows::answer(rt, question, table)
-    } else {
-        name_rows::answer(rt, question, table)
+    match table.get(2) {
+        Some(b'o') => os2_rows::answer(rt, question, table),
+        _ => name_rows::answer(rt, question, table),
     }
 }

@@ -1,12 +1,11 @@
 -- Document 01, "PostScript name and version number": the version number in the characters of a string.
-use Rattle.std.specs.Prelude.{ℕ, zero, suc, ◌+◌, Bool, cond, not, ◌&&◌, List, [], ◌∷◌, ltb, eqb, length, drop}
-use Rattle.std.proofs.Math.Option.{Option, none}
+use Rattle.std.specs.Prelude.{ℕ, zero, suc, ◌+◌, Bool, cond, not, ◌&&◌, List, [], ◌∷◌, ltb, eqb, length, drop, Option as Maybe, Some, None}
+use Rattle.std.proofs.Math.Option.{Option, none, some}
 use Rattle.outcomes.specs.Firsts.{when, first_among}
-use Rattle.outcomes.specs.Outcomes.{bare, Outcome, refused, answered, unless, found_or}
+use Rattle.outcomes.specs.Outcomes.{bare, Outcome, answered, unless, found_or}
 use Rattle.characters.specs.Digits.{digit, longer}
 use Rattle.characters.specs.Strings.{characters, char, odd}
 use Rattle.version_text.specs.declared.Version.{Version}
-use Rattle.version_text.specs.declared.Version.TheVariants.{Number, NoNumber}
 
 -- the code of the period; a two-byte character with a high byte above 0 is none, and no digit
 unfoldable pub period : ℕ → Bool
@@ -63,7 +62,10 @@ first_number l = first_among (number_at l) (length l)
 unfoldable pub version_in : Bool → List ℕ → Outcome Figures
 version_in wide bytes = unless (when (odd wide bytes) (bare 25)) (found_or (bare 25) (first_number (characters wide bytes)) answered)
 
--- the code's answer so
-abbrev pub said : Version → Outcome Figures
-said (Number a b) = answered (record { major = a; minor = b })
-said NoNumber = refused 25 none
+-- the code's number so, and its answer
+abbrev pub figures_of : Maybe Version → Option Figures
+figures_of (Some v) = some (record { major = v.major; minor = v.minor })
+figures_of None = none
+
+abbrev pub said : Maybe Version → Outcome Figures
+said v = found_or (bare 25) (figures_of v) answered

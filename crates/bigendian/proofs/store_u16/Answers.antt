@@ -1,13 +1,6 @@
--- The two stores are those of the definition.
-use native.Mathlib.Nat.{add-zero}
-use native.Mathlib.Omega.{arith}
-use lib.ListN.{length-set}
-use Rattle.bigendian.specs.Numbers.{stored}
+use mathlib.Core.Path.{◌∙◌}
+use Rattle.bigendian.proofs.Laws.{stored_2}
 use Rattle.bigendian.proofs.store_u16.Goals as goal
 
-pub bounds-bytes-at-2 : goal.bounds-bytes-at-2
-bounds-bytes-at-2 c = simp length-set (omega arith)
-
 pub returns : goal.returns
-unfolding stored
-returns c = simp add-zero
+returns c = stored_2 _ _ _ _ c.requires (c.copy_from_slice.ensures.after ∙ c.to_be_bytes.ensures)

@@ -3,5 +3,5 @@ use native.Mathlib.Omega.{arith}
 use Rattle.characters.proofs.Digits.{digit_is}
 use Rattle.characters.proofs.with_digit.Goals as goal
 
-pub overflow_sub-value : goal.overflow_sub-value
-overflow_sub-value c = omega (arith, (digit_is c.args.code).0 c.requires.0)
+pub overflow_sub-code : goal.overflow_sub-code
+overflow_sub-code c = omega (arith, (digit_is c.args.code).0 c.requires.0)

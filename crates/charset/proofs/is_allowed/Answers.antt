@@ -9,6 +9,3 @@ use Rattle.charset.proofs.is_allowed.Goals as goal
 pub entry-requires : goal.entry-requires
 unfolding allowed entry_of xor
 entry-requires c = (whole_table _).0 refl
-
-pub returns : goal.returns
-returns c = c.entry.ensures

@@ -4,4 +4,4 @@ use Rattle.chooser.proofs.Slots.{kept_is}
 use Rattle.chooser.proofs.kept.Goals as goal
 
 pub returns : goal.returns
-returns c = kept_is _ _ c.args.face c.requires c.front-family.ensures refl refl refl c.slope_number.ensures
+returns c = kept_is _ _ c.args.face c.requires c.front.ensures refl refl refl c.from.ensures

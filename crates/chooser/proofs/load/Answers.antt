@@ -10,6 +10,6 @@ use Rattle.chooser.proofs.load.Goals as goal
 pub returns : goal.returns
 unfolding held
 returns c = (
-  c.fill-filled.ensures.answer ∙ ap done_of (found c.args.rack _ _ c.place-at.ensures _ _ _),
-  loaded c.args.rack _ _ c.place-at.ensures (search rules) _ _ _ _ c.fill-filled.ensures.slot,
+  c.fill-answer.ensures.answer ∙ ap done_of (found c.args.rack _ _ c.place-at.ensures _ _ _),
+  loaded c.args.rack _ _ c.place-at.ensures (search rules) _ _ _ _ c.fill-answer.ensures.slot,
 )

@@ -9,6 +9,6 @@ use Rattle.chooser.proofs.unload.Goals as goal
 pub returns : goal.returns
 unfolding held
 returns c = (
-  unload_is c.args.rack _ _ c.place-at.ensures refl c.clear-cleared.ensures.answer,
-  unloaded c.args.rack _ _ c.place-at.ensures (search rules) _ c.clear-cleared.ensures.slot,
+  unload_is c.args.rack _ _ c.place-at.ensures refl c.clear-answer.ensures.answer,
+  unloaded c.args.rack _ _ c.place-at.ensures (search rules) _ c.clear-answer.ensures.slot,
 )

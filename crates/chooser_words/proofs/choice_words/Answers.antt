@@ -1,13 +1,13 @@
 -- Each arm is the definition at its case.
-use mathlib.Core.Path.{ap, ◌∙◌}
+use Rattle.std.proofs.Common.{ap, ◌∙◌}
 use Rattle.refusal_words.specs.Words.{told_words}
 use Rattle.chooser_words.specs.Words.{chosen_words}
 use Rattle.chooser_words.proofs.choice_words.Goals as goal
 
-pub returns-in-Slot : goal.returns-in-Slot
+pub returns-in-Ok : goal.returns-in-Ok
 unfolding chosen_words
-returns-in-Slot c = rw (c.in-Slot.is, c.new.ensures)
+returns-in-Ok c = rw (c.in-Ok.is, c.new.ensures)
 
-pub returns-in-Refused : goal.returns-in-Refused
+pub returns-in-Err : goal.returns-in-Err
 unfolding chosen_words
-returns-in-Refused c = rw (c.in-Refused.is, c.new-in-Refused.ensures, c.told_words.ensures ∙ ap told_words c.told.ensures)
+returns-in-Err c = rw (c.in-Err.is, c.new-in-Err.ensures, c.from-in-Err.ensures ∙ ap told_words c.from.ensures)

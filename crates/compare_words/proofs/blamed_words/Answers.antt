@@ -1,6 +1,7 @@
--- The words of the refusal and the number of its side.
-use mathlib.Core.Path.{◌∙◌}
+-- The words of the refusal and of the side.
+use Rattle.compare_words.specs.Words.{compared_words}
 use Rattle.compare_words.proofs.blamed_words.Goals as goal
 
 pub returns : goal.returns
-returns c = c.new.ensures ∙ rw (c.told_words.ensures, c.side_number.ensures)
+unfolding compared_words
+returns c = rw (c.new.ensures, c.from.ensures, c.side_number.ensures)

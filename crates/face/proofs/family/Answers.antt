@@ -1,34 +1,23 @@
--- A refusal of the table is passed on; else what the first lookup says decides: 20 and nothing else leads to the second.
--- past its check the table is accepted
+-- A refusal of the table is passed on; past its check the table is accepted, and what the first lookup finds decides.
 use mathlib.Core.Path.{sym, ◌∙◌, ap}
+use Rattle.outcomes.proofs.Calls.{outcome_passed}
 use Rattle.outcomes.proofs.Laws.{passed_on}
 use Rattle.name.proofs.Acceptances.{accepted_none, refused_some}
-use Rattle.name_lookup.specs.declared.Answer.TheVariants.{Refused}
-use Rattle.name_lookup.specs.Answers.{said_answer, lookup_of}
-use Rattle.face.proofs.Families.{first_missing, first_refused, first_found}
+use Rattle.name_lookup.specs.Answers.{said_answer, said_lookup_refusal, lookup_of}
+use Rattle.face.proofs.Families.{said_or, first_refused, first_lacks, first_has}
 use Rattle.face.proofs.family.Goals as goal
 
-pub returns-in-Refused : goal.returns-in-Refused
+pub returns-in_err-check : goal.returns-in_err-check
 unfolding lookup_of
-returns-in-Refused c = sym (first_refused _ c.in-Refused.why (passed_on _ (refused_some _ c.check.ensures c.in-Refused.is)))
+returns-in_err-check c =
+    outcome_passed (λ x. x) said_lookup_refusal _ c.from_residual.ensures.1
+    ∙ sym (first_refused _ _ (passed_on _ (refused_some _ c.check.ensures c.in_err-check.was)))
 
-pub look_up-first-requires : goal.look_up-first-requires
-look_up-first-requires c = accepted_none _ c.check.ensures c.in_default.is
+pub invariant_of-accepted-clause-accepted : goal.invariant_of-accepted-clause-accepted
+invariant_of-accepted-clause-accepted c = accepted_none _ c.check.ensures c.in_ok-check.was
 
-pub look_up-requires : goal.look_up-requires
-look_up-requires c = accepted_none _ c.check.ensures c.in_default.is
+pub returns-in-Some : goal.returns-in-Some
+returns-in-Some c = sym (first_has _ c.in-Some.ensures)
 
-pub returns-in-NoRecord : goal.returns-in-NoRecord
-returns-in-NoRecord c =
-    c.look_up.ensures
-    ∙ sym (first_missing _ (sym c.look_up-first.ensures ∙ ap said_answer (c.in-Refused-first.is ∙ ap Refused c.in-NoRecord.is)))
-
-pub returns-in_default-why : goal.returns-in_default-why
-returns-in_default-why c =
-    let why = ap said_answer (ap Refused c.in_default-why.is) in
-    why ∙ sym (first_refused _ c.in_default-why.field-0 (sym c.look_up-first.ensures ∙ ap said_answer c.in-Refused-first.is ∙ why))
-
-pub returns-in_default-first : goal.returns-in_default-first
-returns-in_default-first c =
-    let said = ap said_answer c.in_default-first.is in
-    said ∙ sym (first_found _ _ (sym c.look_up-first.ensures ∙ said))
+pub returns : goal.returns
+returns c = ap said_answer c.ok_or.ensures.value ∙ said_or c.look_up-2.result ∙ c.look_up-2.ensures ∙ sym (first_lacks _ c.in_default.is c.look_up.ensures)

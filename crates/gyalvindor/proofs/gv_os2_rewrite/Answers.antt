@@ -1,7 +1,11 @@
 -- The words of the writer's answer, and the room as the writer leaves it.
-use mathlib.Core.Path.{ap, ◌∙◌}
+use Rattle.std.proofs.Common.{ap, ◌∙◌}
+use Rattle.os2_writer.specs.Replies.{said_rewrite_refusal}
 use Rattle.os2_words.specs.Words.{written_words}
+use Rattle.os2_words.proofs.Writers.{written_said}
 use Rattle.gyalvindor.proofs.gv_os2_rewrite.Goals as goal
 
 pub returns : goal.returns
-returns c = (c.rewritten_words.ensures ∙ ap written_words c.rewrite.ensures.0, c.rewrite.ensures.1)
+returns c =
+    let words = written_said said_rewrite_refusal _ c.written_words.ensures.written c.written_words.ensures.refused in
+    (words ∙ ap written_words c.rewrite.ensures.0, c.rewrite.ensures.1)

@@ -1,10 +1,8 @@
-use Prim.Native.Nat.{◌≤◌}
-use mathlib.Core.Path.{◌≡◌, refl, ◌∙◌}
-use native.Mathlib.Omega.{arith}
-use lib.ListN.{length, length-set, drop_of_length-le}
+use Rattle.std.proofs.Common.{◌≤◌, ◌≡◌, refl, ◌∙◌, length, arith}
+use lib.ListN.{length-set, drop_of_length-le}
 use Rattle.lines.specs.Numerals as Numerals
 use Rattle.lines.specs.Numerals.{decimal}
-use Rattle.lines.proofs.Pieces.{digits_last, digits_next}
+use Rattle.lines.proofs.Digits.{digits_last, digits_next}
 use Rattle.lines.proofs.spell.Goals as goal
 
 pub loop-k-init : goal.loop-k-init
@@ -19,4 +17,4 @@ loop-k-preserved c = let l = c.loop-k in (omega arith, rw length-set l.invariant
 
 pub returns : goal.returns
 unfolding Numerals.digits
-returns c = let z : c.loop-k.k ≡ 0 = omega arith in (omega arith, rw z (rw z at c.loop-k.invariant.2))
+returns c = let z : c.loop-k.k ≡ 0 = omega arith in (omega arith, rw z at c.loop-k.invariant.2)

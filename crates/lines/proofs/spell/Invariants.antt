@@ -1,13 +1,8 @@
 -- The loop keeps that the digits of what is left, and behind them those that stand already, are the number's.
-use Prim.Native.Nat.{◌≤◌}
-use mathlib.Core.Path.{◌≡◌}
-use lib.ListN.{length, drop}
+use Rattle.std.proofs.Common.{◌≤◌, ◌≡◌, length, drop}
 use Rattle.lines.specs.Numerals as Numerals
 use Rattle.lines.specs.Numerals.{decimal}
 use Rattle.lines.proofs.spell.Given as goal
 
 abbrev pub invariant-loop-k : goal.invariant-loop-k
 invariant-loop-k l = (l.k ≤ 20) × (length l.digits ≡ length l.initial.digits) × (Numerals.digits l.k l.rest (drop l.k l.digits) ≡ decimal l.n)
-
-abbrev pub decreases-loop-k : goal.decreases-loop-k
-decreases-loop-k l = l.k

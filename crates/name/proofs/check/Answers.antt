@@ -1,31 +1,30 @@
 -- The layout's fault, else the records', else the tags': past the first test no fault of the layout is left, past the second none of the records.
-use mathlib.Core.Path.{sym, ◌∙◌, ap}
+use Rattle.std.proofs.Common.{sym, ◌∙◌, ap}
 use Rattle.outcomes.specs.Firsts.{◌then◌}
 use Rattle.outcomes.specs.Outcomes.{accepted, unless}
-use Rattle.name.specs.Refusals.{said_fault}
+use Rattle.outcomes.proofs.Calls.{error_passed}
+use Rattle.name.specs.Refusals.{said_refusal}
 use Rattle.name.specs.Acceptance.{faults}
 use Rattle.name.proofs.Acceptances.{layout_none, framed}
 use Rattle.name.proofs.check.Goals as goal
 
-pub returns-in-Refused : goal.returns-in-Refused
+pub returns-in_err-layout_fault : goal.returns-in_err-layout_fault
 unfolding faults ◌then◌
-returns-in-Refused c = ap (λ o. unless o accepted) (simp (← c.layout_fault.ensures, c.in-Refused.is))
+returns-in_err-layout_fault c = ap (λ o. unless o accepted) (error_passed said_refusal _ c.from_residual.ensures.1 ∙ rw (sym c.in_err-layout_fault.ensures))
 
-pub record_faults-requires : goal.record_faults-requires
-record_faults-requires c = framed _ ((layout_none _).0 (sym c.layout_fault.ensures ∙ ap said_fault c.in_default.is))
+-- past the layout's faults its records and tags lie within the table
+pub invariant_of-framed-clause-header : goal.invariant_of-framed-clause-header
+invariant_of-framed-clause-header c = (framed _ ((layout_none _).0 (sym c.in_ok-layout_fault.ensures))).front
 
-pub returns-in-Refused-record_faults : goal.returns-in-Refused-record_faults
+pub invariant_of-framed-2 : goal.invariant_of-framed-2
+invariant_of-framed-2 c = record { framed = framed _ ((layout_none _).0 (sym c.in_ok-layout_fault.ensures)) }
+
+pub returns-in_err-record_faults : goal.returns-in_err-record_faults
 unfolding faults ◌then◌
-returns-in-Refused-record_faults c =
-    let laid = sym c.layout_fault.ensures ∙ ap said_fault c.in_default.is in
-    ap (λ o. unless o accepted) (simp (laid, ← c.record_faults.ensures, c.in-Refused-record_faults.is))
-
-pub tag_faults-requires : goal.tag_faults-requires
-tag_faults-requires c = framed _ ((layout_none _).0 (sym c.layout_fault.ensures ∙ ap said_fault c.in_default.is))
+returns-in_err-record_faults c =
+    ap (λ o. unless o accepted)
+    (error_passed said_refusal _ c.from_residual-in_err-record_faults.ensures.1 ∙ rw (sym c.in_ok-layout_fault.ensures, sym c.in_err-record_faults.ensures))
 
 pub returns : goal.returns
 unfolding faults ◌then◌
-returns c =
-    let laid = sym c.layout_fault.ensures ∙ ap said_fault c.in_default.is in
-    let sound = sym c.record_faults.ensures ∙ ap said_fault c.in_default-record_faults.is in
-    ap (λ o. unless o accepted) (simp (laid, sound) c.tag_faults.ensures)
+returns c = ap (λ o. unless o accepted) (rw (sym c.in_ok-layout_fault.ensures, sym c.in_ok-record_faults.ensures) c.tag_faults.ensures)

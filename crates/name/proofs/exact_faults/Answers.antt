@@ -1,19 +1,19 @@
-use mathlib.Core.Path.{sym, ◌∙◌, ap}
-use native.Mathlib.Omega.{arith}
+use Rattle.std.proofs.Common.{sym, ◌∙◌}
+use Rattle.outcomes.proofs.Calls.{error_passed}
 use Rattle.outcomes.proofs.Laws.{at_first, goes_on, stops, at_last}
-use Rattle.name.specs.Refusals.{said_fault}
+use Rattle.name.specs.Refusals.{said_refusal}
 use Rattle.name.proofs.exact_faults.Goals as goal
 
 pub loop-i-init : goal.loop-i-init
 loop-i-init c = at_first _ _
 
-pub returns-in-Refused : goal.returns-in-Refused
-returns-in-Refused c = rw (← c.record_count-count.ensures)
-    (sym (stops _ c.loop-i.invariant (omega arith) (sym c.record_fault.ensures ∙ ap said_fault c.in-Refused.is)))
+pub returns-in_err-record_fault : goal.returns-in_err-record_fault
+returns-in_err-record_fault c =
+    error_passed said_refusal _ c.from_residual.ensures.1
+    ∙ rw (← c.record_count-i-end.ensures) (sym (stops _ c.loop-i.invariant c.loop-i-test.true (sym c.in_err-record_fault.ensures)))
 
 pub loop-i-preserved : goal.loop-i-preserved
-loop-i-preserved c = goes_on _ c.loop-i.invariant (omega arith)
-    (sym c.record_fault.ensures ∙ ap said_fault c.in_default.is)
+loop-i-preserved c = goes_on _ c.loop-i.invariant c.loop-i-test.true (sym c.in_ok-record_fault.ensures)
 
 pub returns : goal.returns
-returns c = rw (← c.record_count-count.ensures) (sym (at_last _ c.loop-i.invariant c.loop-i-test.false))
+returns c = rw (← c.record_count-i-end.ensures) (sym (at_last _ c.loop-i.invariant c.loop-i-test.false))

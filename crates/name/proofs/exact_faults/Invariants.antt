@@ -1,11 +1,7 @@
 -- The loop keeps that no record so far has a fault; where one has, it is the first.
-use Prim.Native.Nat.{◌-◌}
 use Rattle.outcomes.proofs.Laws.{SoFar}
 use Rattle.name.specs.Acceptance.{record_fault}
 use Rattle.name.proofs.exact_faults.Given as goal
 
 abbrev pub invariant-loop-i : goal.invariant-loop-i
-invariant-loop-i l = SoFar (record_fault l.table) l.count l.i
-
-abbrev pub decreases-loop-i : goal.decreases-loop-i
-decreases-loop-i l = l.count - l.i
+invariant-loop-i l = SoFar (record_fault l.framed.table.bytes.now) l.i-end l.i

@@ -14,16 +14,13 @@ pub returns-then-too_short : goal.returns-then-too_short
 unfolding layout_fault
 returns-then-too_short c = sym (here _ _ _ (sym c.too_short.ensures ∙ c.if-too_short.true))
 
-pub other_format-requires : goal.other_format-requires
-other_format-requires c = (long _).0 (failed c.too_short.ensures c.if-too_short.false)
+pub invariant_of-table-clause-header : goal.invariant_of-table-clause-header
+invariant_of-table-clause-header c = (long _).0 (failed c.too_short.ensures c.if-too_short.false)
 
 pub returns-then-other_format : goal.returns-then-other_format
 unfolding layout_fault
 returns-then-other_format c =
     sym (past _ _ _ (failed c.too_short.ensures c.if-too_short.false) ∙ here _ _ _ (sym c.other_format.ensures ∙ c.if-other_format.true))
-
-pub records_pass-requires : goal.records_pass-requires
-records_pass-requires c = (long _).0 (failed c.too_short.ensures c.if-too_short.false)
 
 pub returns-then-records_pass : goal.returns-then-records_pass
 unfolding layout_fault
@@ -31,9 +28,6 @@ returns-then-records_pass c =
     sym (past _ _ _ (failed c.too_short.ensures c.if-too_short.false)
     ∙ past _ _ _ (failed c.other_format.ensures c.if-other_format.false)
     ∙ here _ _ _ (sym c.records_pass.ensures ∙ c.if-records_pass.true))
-
-pub tags_pass-requires : goal.tags_pass-requires
-tags_pass-requires c = (long _).0 (failed c.too_short.ensures c.if-too_short.false)
 
 pub returns-then-tags_pass : goal.returns-then-tags_pass
 unfolding layout_fault
@@ -43,12 +37,15 @@ returns-then-tags_pass c =
     ∙ past _ _ _ (failed c.records_pass.ensures c.if-records_pass.false)
     ∙ here _ _ _ (sym c.tags_pass.ensures ∙ c.if-tags_pass.true))
 
-pub storage_misplaced-requires : goal.storage_misplaced-requires
-storage_misplaced-requires c =
+pub invariant_of-storage_misplaced : goal.invariant_of-storage_misplaced
+invariant_of-storage_misplaced c =
     record {
-      front = (long _).0 (failed c.too_short.ensures c.if-too_short.false);
-      records = (records_within _).0 (failed c.records_pass.ensures c.if-records_pass.false);
-      tags = (tags_within _).0 (failed c.tags_pass.ensures c.if-tags_pass.false);
+      framed =
+          record {
+            front = (long _).0 (failed c.too_short.ensures c.if-too_short.false);
+            records = (records_within _).0 (failed c.records_pass.ensures c.if-records_pass.false);
+            tags = (tags_within _).0 (failed c.tags_pass.ensures c.if-tags_pass.false);
+          };
     }
 
 pub returns-then-storage_misplaced : goal.returns-then-storage_misplaced

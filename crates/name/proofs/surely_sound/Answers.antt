@@ -1,11 +1,10 @@
 -- A turn looks at what the turn before it read: that record keeps the limits, and the key of this one is above its key.
 use Prim.Native.Nat.{ℕ, ◌+◌, ◌/◌, ◌%◌, ◌≤◌, ◌<◌, ◌-◌}
-use mathlib.Core.Path.{◌≡◌}
-use mathlib.Core.Bool.{false≢true}
+use mathlib.Core.Path.{◌≡◌, refl, sym}
+use mathlib.Core.Bool.{Bool, true, false, not, false≢true}
 use mathlib.Core.List.{List}
 use native.Mathlib.Omega.{arith}
 use lib.ListN.{length}
-use borrow.Author.Rules.{rules}
 use borrow.Author.Count.{below_none, below_more}
 use Rattle.bigendian.specs.Numbers.{number, Bytes}
 use Rattle.outcomes.proofs.Laws.{first_all}
@@ -26,11 +25,15 @@ spoken t b i {last} {text} f read e s l h =
     (omega (arith, e), omega (arith, s)) in
     fit_more t i f (λ k. in_limits t b (i - 1) (read k).0 (read k).1 limits)
 
-pub returns-then-table-start : goal.returns-then-table-start
-returns-then-table-start = (λ c e. absurd (false≢true e))
+not_true : (b : Bool) → not b ≡ true → b ≡ false
+not_true true e = sym e
+not_true false e = refl
+
+pub returns-then-framed-start : goal.returns-then-framed-start
+returns-then-framed-start = (λ c e. absurd (false≢true e))
 
 pub loop-i-init : goal.loop-i-init
-loop-i-init c = (search rules, below_none _, λ i l. absurd (omega arith), λ l. absurd (omega arith))
+loop-i-init c = (below_none _, λ i l. absurd (omega arith), λ l. absurd (omega arith))
 
 pub returns-then-out_of_limits : goal.returns-then-out_of_limits
 returns-then-out_of_limits = (λ c e. absurd (false≢true e))
@@ -40,26 +43,23 @@ returns-then-out_of_order = (λ c e. absurd (false≢true e))
 
 pub loop-i-preserved : goal.loop-i-preserved
 loop-i-preserved c =
-    let t = c.args.table.now in
+    let t = c.args.framed.now.table.bytes.now in
     let i = c.loop-i.i in
     let e : i + 1 - 1 ≡ i = omega arith in
-    let bytes : Bytes t = λ k. omega (arith, c.type_inv.table k) in
-    let here = c.key_at-here.ensures in
-    let rises = order_ok t bytes i (λ l. omega (arith, c.out_of_order.ensures c.if-out_of_order.false l, (c.loop-i.invariant.3 l).0, here)) in
+    let bytes : Bytes t = c.args.framed.now.table.each in
+    let here = c.key-here.ensures in
+    let rises = order_ok t bytes i (λ l. omega (arith, c.out_of_order.ensures c.if-out_of_order.false l, (c.loop-i.invariant.2 l).0, here)) in
     let below =
-    spoken t bytes i c.loop-i.invariant.2 c.loop-i.invariant.3 c.tag_count.ensures c.storage_start-start.ensures (omega arith)
+    spoken t bytes i c.loop-i.invariant.1 c.loop-i.invariant.2 c.tag_count.ensures c.storage_start-start.ensures c.if-framed-start.false
     (c.out_of_limits.ensures c.if-out_of_limits.false) in
-    (search rules, below_more _ i c.loop-i.invariant.1 rises, rw e below, λ l. rw e (here, c.text_number-text.ensures))
-
-pub returns-then-out_of_limits-2 : goal.returns-then-out_of_limits-2
-returns-then-out_of_limits-2 = (λ c e. absurd (false≢true e))
+    (below_more _ i c.loop-i.invariant.0 rises, rw e below, λ l. rw e (here, c.text_number-text.ensures))
 
 pub returns : goal.returns
 returns c = λ e.
-    let t = c.args.table.now in
-    let bytes : Bytes t = λ k. omega (arith, c.type_inv.table k) in
-    let end : c.loop-i.i ≡ c.record_count-count.result = omega (arith, c.loop-i-test.false, c.loop-i.invariant.0) in
+    let t = c.args.framed.now.table.bytes.now in
+    let bytes : Bytes t = c.args.framed.now.table.each in
+    let end : c.loop-i.i ≡ c.record_count-i-end.result = omega (arith, c.loop-i-test.false, c.loop-i.auto.i-end) in
     let below =
-    spoken t bytes c.loop-i.i c.loop-i.invariant.2 c.loop-i.invariant.3 c.tag_count.ensures c.storage_start-start.ensures (omega arith)
-    (c.out_of_limits-2.ensures c.if-out_of_limits-2.false) in
-    rw (← c.record_count-count.ensures, ← end) ((first_all _ _).1 (faultless _ _ c.loop-i.invariant.1 below))
+    spoken t bytes c.loop-i.i c.loop-i.invariant.1 c.loop-i.invariant.2 c.tag_count.ensures c.storage_start-start.ensures c.if-framed-start.false
+    (c.out_of_limits-2.ensures (not_true _ e)) in
+    rw (← c.record_count-i-end.ensures, ← end) ((first_all _ _).1 (faultless _ _ c.loop-i.invariant.0 below))

@@ -1,6 +1,6 @@
 -- The loop keeps that each key so far is above the one before it, that each record but the last of them has a string and a language that no
 -- refusal meets, and that `last` and `text` are the key, and the length and offset, of the last of them.
-use Prim.Native.Nat.{◌≤◌, ◌<◌, ◌-◌}
+use Prim.Native.Nat.{◌<◌, ◌-◌}
 use mathlib.Core.Path.{◌≡◌}
 use Rattle.bigendian.specs.Numbers.{number}
 use Rattle.name_layout.specs.Layout.{text_at}
@@ -9,8 +9,5 @@ use Rattle.name.proofs.Acceptances.{Rise, FitAndSpeak}
 use Rattle.name.proofs.surely_sound.Given as goal
 
 abbrev pub invariant-loop-i : goal.invariant-loop-i
-invariant-loop-i l = (l.i ≤ l.count) × Rise l.table l.i × FitAndSpeak l.table (l.i - 1)
-    × (0 < l.i → (l.last ≡ packed (key_of l.table (l.i - 1))) × (l.text ≡ number 4 l.table (text_at (l.i - 1))))
-
-abbrev pub decreases-loop-i : goal.decreases-loop-i
-decreases-loop-i l = l.count - l.i
+invariant-loop-i l = Rise l.framed.table.bytes.now l.i × FitAndSpeak l.framed.table.bytes.now (l.i - 1)
+    × (0 < l.i → (l.last ≡ packed (key_of l.framed.table.bytes.now (l.i - 1))) × (l.text ≡ number 4 l.framed.table.bytes.now (text_at (l.i - 1))))

@@ -2,7 +2,6 @@
 use Prim.Native.Nat.{ℕ}
 use mathlib.Core.Path.{◌≡◌, sym, ◌∙◌}
 use mathlib.Core.List.{List}
-use native.Mathlib.Omega.{arith}
 use lib.ListN.{length}
 use Rattle.outcomes.specs.Firsts.{when, first_among}
 use Rattle.outcomes.proofs.Laws.{at_first, goes_on, stops, at_last}
@@ -24,10 +23,10 @@ loop-i-init c = at_first _ _
 pub returns-then-code : goal.returns-then-code
 unfolding when
 returns-then-code c = let other = differ_here _ _ _ (λ e. c.if-code.true (c.code.ensures ∙ e ∙ sym c.code-in-loop-i.ensures)) in
-    sym (sized _ _ c.count.ensures c.if-count.false c.count-count.ensures ∙ stops _ c.loop-i.invariant (omega arith) other)
+    sym (sized _ _ c.count.ensures c.if-count.false c.count-count.ensures ∙ stops _ c.loop-i.invariant c.loop-i-test.true other)
 
 pub loop-i-preserved : goal.loop-i-preserved
-loop-i-preserved c = goes_on _ c.loop-i.invariant (omega arith)
+loop-i-preserved c = goes_on _ c.loop-i.invariant c.loop-i-test.true
     ((same_here _ _ _).1 (sym c.code.ensures ∙ c.if-code.false ∙ c.code-in-loop-i.ensures))
 
 pub returns : goal.returns

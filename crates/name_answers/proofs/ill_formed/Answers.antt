@@ -3,7 +3,6 @@ use Prim.Native.Nat.{ℕ}
 use mathlib.Core.Path.{◌≡◌, refl, sym, ap, ◌∙◌}
 use mathlib.Core.Bool.{Bool, false, not}
 use mathlib.Core.List.{List}
-use native.Mathlib.Omega.{arith}
 use lib.ListN.{length}
 use Rattle.outcomes.specs.Firsts.{when, first_among}
 use Rattle.outcomes.specs.Outcomes.{bare}
@@ -44,10 +43,10 @@ returns-then-is_other c =
     let even = sym c.is_odd.ensures ∙ c.if-is_odd.false in
     let right = sym c.wrong_count.ensures ∙ c.if-wrong_count.false in
     let other = seen _ c.loop-i.i c.code.ensures c.is_other.ensures ∙ (when_some _ _ _).1 (c.if-is_other.true, refl) in
-    sym (sized _ _ even c.count-count.ensures right ∙ stops _ c.loop-i.invariant (omega arith) other)
+    sym (sized _ _ even c.count-count.ensures right ∙ stops _ c.loop-i.invariant c.loop-i-test.true other)
 
 pub loop-i-preserved : goal.loop-i-preserved
-loop-i-preserved c = goes_on _ c.loop-i.invariant (omega arith) (seen _ _ c.code.ensures c.is_other.ensures ∙ (when_none _ _).1 c.if-is_other.false)
+loop-i-preserved c = goes_on _ c.loop-i.invariant c.loop-i-test.true (seen _ _ c.code.ensures c.is_other.ensures ∙ (when_none _ _).1 c.if-is_other.false)
 
 pub returns : goal.returns
 unfolding when

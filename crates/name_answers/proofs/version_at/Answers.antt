@@ -1,29 +1,14 @@
--- The record lies within an accepted table, and the part lent to the search is its string.
-use mathlib.Core.Path.{sym, ◌∙◌, ap}
-use native.Mathlib.Omega.{arith}
-use Rattle.name.proofs.Acceptances.{record_inside}
-use Rattle.name_search.proofs.Finds.{text_inside, part_is}
-use Rattle.version_text.specs.Versions.{said}
+-- The part lent to the search is the record's string, and what it finds there is told with the record's number.
+use Rattle.std.proofs.Common.{◌∙◌, ap}
+use Rattle.outcomes.specs.Outcomes.{found_or}
+use Rattle.version_text.specs.Versions.{version_in}
 use Rattle.name_answers.specs.Versions.{read_from}
 use Rattle.name_answers.proofs.version_at.Goals as goal
 
-pub text_of-text-requires : goal.text_of-text-requires
-text_of-text-requires c = record_inside _ c.requires.0 _ c.requires.1
+pub returns-in-Some : goal.returns-in-Some
+unfolding read_from found_or
+returns-in-Some c = ap (read_from _) (c.in-Some.ensures ∙ ap (version_in _) c.string_of-text.ensures)
 
-pub overflow_add-end : goal.overflow_add-end
-overflow_add-end c = omega (arith, text_inside _ _ c.text_of-text.ensures c.requires.0 c.requires.1)
-
-pub slice_bounds-version_of-end : goal.slice_bounds-version_of-end
-slice_bounds-version_of-end c = omega (arith, text_inside _ _ c.text_of-text.ensures c.requires.0 c.requires.1)
-
-pub returns-in-Number : goal.returns-in-Number
-unfolding read_from
-returns-in-Number c =
-    let read = rw (part_is _ _ c.text_of-text.ensures) at c.version_of.ensures in
-    ap (read_from _) (sym (ap said c.in-Number.is) ∙ read)
-
-pub returns-in-NoNumber : goal.returns-in-NoNumber
-unfolding read_from
-returns-in-NoNumber c =
-    let read = rw (part_is _ _ c.text_of-text.ensures) at c.version_of.ensures in
-    ap (read_from _) (sym (ap said c.in-NoNumber.is) ∙ read)
+pub returns-in-None : goal.returns-in-None
+unfolding read_from found_or
+returns-in-None c = ap (read_from _) (c.in-None.ensures ∙ ap (version_in _) c.string_of-text.ensures)

@@ -11,8 +11,8 @@ use Rattle.name_compare.specs.Steps.{Reached}
 use Rattle.name_compare.proofs.write_differences.Given as goal
 
 abbrev pub invariant-loop-done : goal.invariant-loop-done
-invariant-loop-done l = (l.i ≤ layout.count l.left) × (l.j ≤ layout.count l.right) × (length l.rows ≡ length l.initial.rows)
-    × ((out : List Difference) × Reached l.left l.right l.i l.j out × (l.done ≡ length out) × (l.rows ≡ front (rows_of row_of out) l.initial.rows))
+invariant-loop-done l = (l.i ≤ layout.count l.pair.left.bytes.now) × (l.j ≤ layout.count l.pair.right.bytes.now) × (length l.rows ≡ length l.initial.rows)
+    × ((out : List Difference) × Reached l.pair.left.bytes.now l.pair.right.bytes.now l.i l.j out × (l.done ≡ length out) × (l.rows ≡ front (rows_of row_of out) l.initial.rows))
 
 abbrev pub decreases-loop-done : goal.decreases-loop-done
-decreases-loop-done l = layout.count l.left + layout.count l.right - (l.i + l.j)
+decreases-loop-done l = layout.count l.pair.left.bytes.now + layout.count l.pair.right.bytes.now - (l.i + l.j)

@@ -23,14 +23,14 @@ framed t a = accepted_framed t ((acceptable t).1 a)
 rise : (t : List ℕ) → Bytes t → Acceptable t → Rising (doubled t) (count t)
 rise t b a = doubled_rise t b ((acceptable t).1 a)
 
-pub record_count-high-requires : goal.record_count-high-requires
-record_count-high-requires c = (framed _ c.requires).front
+pub invariant_of-record_count-clause-header : goal.invariant_of-record_count-clause-header
+invariant_of-record_count-clause-header c = (framed _ c.requires).front
 
 pub loop-low-init : goal.loop-low-init
 loop-low-init c = rw c.record_count-high.ensures (start _ _ _, counted_start _ _ _)
 
-pub key_at-here-requires : goal.key_at-here-requires
-key_at-here-requires c = omega (arith, framed _ c.requires)
+pub invariant_of-key-clause-inside : goal.invariant_of-key-clause-inside
+invariant_of-key-clause-inside c = omega (arith, framed _ c.requires)
 
 pub returns-then-here-number : goal.returns-then-here-number
 unfolding record_sought looks_sought
@@ -38,7 +38,7 @@ returns-then-here-number c =
     let t = c.args.table.now in
     let b : Bytes t = λ i. omega (arith, c.type_inv.table i) in
     let mid = middle c.loop-low.low c.loop-low.high in
-    let equal : doubled t mid ≡ sought_by c.args.number c.args.exact = ap (λ n. 2 * n) (sym c.key_at-here.ensures) ∙ hit _ _ _ c.if-here-number.true in
+    let equal : doubled t mid ≡ sought_by c.args.number c.args.exact = ap (λ n. 2 * n) (sym c.key-here.ensures) ∙ hit _ _ _ c.if-here-number.true in
     record {
       found = sym (scan_found _ _ mid _ (omega arith) equal (rise t b c.requires));
       looked = counted_found _ _ c.loop-low.invariant.1 (omega arith) ((tests.equal _ _).1 equal);
@@ -49,7 +49,7 @@ loop-low-preserved-then-here-number-2 c =
     let t = c.args.table.now in
     let b : Bytes t = λ i. omega (arith, c.type_inv.table i) in
     let mid = middle c.loop-low.low c.loop-low.high in
-    let below : doubled t mid < sought_by c.args.number c.args.exact = rw (← c.key_at-here.ensures) (short _ _ _ c.if-here-number.false c.if-here-number-2.true) in (
+    let below : doubled t mid < sought_by c.args.number c.args.exact = rw (← c.key-here.ensures) (short _ _ _ c.if-here-number.false c.if-here-number-2.true) in (
       upward _ _ (rise t b c.requires) c.loop-low.invariant.0 mid (omega arith) (omega arith) below,
       counted_up _ _ c.loop-low.invariant.1 (omega arith) ((tests.unequal (doubled t mid) (sought_by c.args.number c.args.exact)).1 (λ e. omega arith)) ((tests.below _ _).1 below),
     )
@@ -60,7 +60,7 @@ loop-low-preserved c =
     let b : Bytes t = λ i. omega (arith, c.type_inv.table i) in
     let mid = middle c.loop-low.low c.loop-low.high in
     let sought = sought_by c.args.number c.args.exact in
-    let above : sought < doubled t mid = rw (← c.key_at-here.ensures) (far _ _ c.args.exact c.if-here-number-2.false) in (
+    let above : sought < doubled t mid = rw (← c.key-here.ensures) (far _ _ c.args.exact c.if-here-number-2.false) in (
       downward _ _ (rise t b c.requires) c.loop-low.invariant.0 mid (omega arith) (omega arith) above,
       counted_down _ _ c.loop-low.invariant.1 (omega arith) ((tests.unequal (doubled t mid) sought).1 (λ e. omega arith))
           ((tests.not_below (doubled t mid) sought).1 (omega arith)),

@@ -1,22 +1,50 @@
--- With no fault the offset is at most 65,535, so that the next one fits; each branch is the definition at its case.
-use Prim.Native.Nat.{ℕ, ◌+◌}
-use mathlib.Core.Path.{sym, ap, ◌∙◌}
-use native.Mathlib.Omega.{arith}
-use Rattle.name_store.specs.Sweeps.{work_at, found_at}
-use Rattle.name_store.proofs.Turns.{found_some, found_none, check_sound, check_refused, fault_near}
+-- The first test that holds decides.
+use mathlib.Core.Path.{sym, ◌∙◌}
+use Rattle.name_store.specs.Writing.{language_bad}
+use Rattle.name_store.proofs.Faults.{behind_none, behind_equal, behind_below, behind_above, fault_pool, fault_language, fault_order, is_far, is_near}
 use Rattle.name_store.proofs.check.Goals as goal
+use Rattle.name_store.proofs.check.Goals.{in-Some+else-key-last, in_default}
 
-pub returns-then-why-ne0 : goal.returns-then-why-ne0
-returns-then-why-ne0 c = sym (check_refused _ _ _ _ (sym c.fault-why.ensures ∙ found_some _ _ (omega (arith, c.if-why-ne0.true))))
+pub returns-then-passes_pool-clause-fault : goal.returns-then-passes_pool-clause-fault
+returns-then-passes_pool-clause-fault c = sym (fault_pool _ _ _ _ _ (sym c.passes_pool.ensures ∙ c.if-passes_pool.true))
 
-pub overflow_add-result : goal.overflow_add-result
-overflow_add-result c =
-    let none_found = sym c.fault-why.ensures ∙ ap (λ (n : ℕ). found_at n c.args.i) c.if-why-ne0.false ∙ found_none _ in
-    omega (arith, fault_near _ _ _ _ _ none_found)
+pub returns-then-forbidden-clause-fault : goal.returns-then-forbidden-clause-fault
+unfolding language_bad
+returns-then-forbidden-clause-fault c =
+    let pool = sym c.passes_pool.ensures ∙ c.if-passes_pool.false in
+    sym (fault_language _ _ _ _ _ pool (sym c.forbidden.ensures ∙ c.if-forbidden.true))
 
-pub returns : goal.returns
-returns c =
-    let w = c.args.work in
-    let none_found = sym c.fault-why.ensures ∙ ap (λ (n : ℕ). found_at n c.args.i) c.if-why-ne0.false ∙ found_none _ in
-    ap (λ (k : ℕ). work_at 0 0 k (w.offset + c.args.entry.length) w.count) c.key_of-here.ensures
-    ∙ sym (check_sound _ _ _ _ none_found)
+pub returns-then-key-last-2-clause-fault : goal.returns-then-key-last-2-clause-fault
+unfolding language_bad
+returns-then-key-last-2-clause-fault c =
+    let pool = sym c.passes_pool.ensures ∙ c.if-passes_pool.false in
+    let language = sym c.forbidden.ensures ∙ c.if-forbidden.false in
+    sym (fault_order _ _ _ _ _ pool language ∙ behind_equal _ _ _ c.in-Some.is (sym c.key_of-key.ensures ∙ c.if-key-last-2.true))
+
+pub returns-then-key-last-clause-fault : goal.returns-then-key-last-clause-fault
+unfolding language_bad
+returns-then-key-last-clause-fault c =
+    let pool = sym c.passes_pool.ensures ∙ c.if-passes_pool.false in
+    let language = sym c.forbidden.ensures ∙ c.if-forbidden.false in
+    sym (fault_order _ _ _ _ _ pool language
+    ∙ behind_below _ _ _ c.in-Some.is (rw c.key_of-key.ensures at c.if-key-last.true) (λ e. c.if-key-last-2.false (c.key_of-key.ensures ∙ e)))
+
+pub returns-then-offset-gt-LAST_OFFSET-clause-fault : goal.returns-then-offset-gt-LAST_OFFSET-clause-fault
+unfolding language_bad
+returns-then-offset-gt-LAST_OFFSET-clause-fault c =
+    let pool = sym c.passes_pool.ensures ∙ c.if-passes_pool.false in
+    let language = sym c.forbidden.ensures ∙ c.if-forbidden.false in
+    sym (fault_order _ _ _ _ _ pool language ∙ elim c.match-before.branch [
+      | in-Some+else-key-last w ↦ behind_above _ _ _ w.in-Some.is (rw c.key_of-key.ensures at w.if-key-last.false)
+      | in_default w ↦ behind_none _ _ _ w.in_default.is
+    ] ∙ is_far _ _ c.if-offset-gt-LAST_OFFSET.true)
+
+pub returns-clause-fault : goal.returns-clause-fault
+unfolding language_bad
+returns-clause-fault c =
+    let pool = sym c.passes_pool.ensures ∙ c.if-passes_pool.false in
+    let language = sym c.forbidden.ensures ∙ c.if-forbidden.false in
+    sym (fault_order _ _ _ _ _ pool language ∙ elim c.match-before.branch [
+      | in-Some+else-key-last w ↦ behind_above _ _ _ w.in-Some.is (rw c.key_of-key.ensures at w.if-key-last.false)
+      | in_default w ↦ behind_none _ _ _ w.in_default.is
+    ] ∙ is_near _ _ c.if-offset-gt-LAST_OFFSET.false)

@@ -1,5 +1,5 @@
 -- The three stores are those of the front.
-use Rattle.name_store.proofs.Turns.{front_stored}
+use Rattle.name_store.proofs.Stores.{front_stored}
 use Rattle.name_store.proofs.put_front.Goals as goal
 
 pub returns : goal.returns

@@ -1,7 +1,7 @@
 -- The six stores are those of the record.
 use borrow.Author.Rules.{rules}
 use Rattle.name_store.specs.Entries.{Sixteen}
-use Rattle.name_store.proofs.Turns.{record_stored}
+use Rattle.name_store.proofs.Stores.{record_stored}
 use Rattle.name_store.proofs.put_record.Goals as goal
 
 pub returns : goal.returns

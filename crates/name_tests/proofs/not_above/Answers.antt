@@ -20,15 +20,15 @@ at_most_is a b = by (dec_lt a b) (ℕ_discrete a b)
     by (no l) (yes e) = simp (le-ltb a b (omega arith), eq-eqb _ _ e, le-leb a b (omega arith))
     by (no l) (no e) = simp (le-ltb a b (omega arith), ne_eqb _ _ e, lt-leb a b (omega arith))
 
-pub returns-then-i-gt0 : goal.returns-then-i-gt0
+pub returns-then-here-gt0 : goal.returns-then-here-gt0
 unfolding below_before equals_before
-returns-then-i-gt0 c = let t = c.args.table.now in
-    let i = c.args.i in
-    let b : Bytes t = λ j. omega (arith, c.type_inv.table j) in
+returns-then-here-gt0 c = let t = c.args.here.now.table.now in
+    let i = c.args.here.now.i in
+    let b : Bytes t = c.args.here.now.each in
     let here = key_small t b i in
     let last = key_small t b (i - 1) in
-    simp (lt-ltb _ _ c.if-i-gt0.true, below_packed here last, same_packed here last, at_most_is, ← c.key_at.ensures, ← c.key_at-then-i-gt0.ensures)
+    simp (lt-ltb _ _ c.if-here-gt0.true, below_packed here last, same_packed here last, at_most_is, ← c.key.ensures, ← c.key_before.ensures)
 
-pub returns-else-i-gt0 : goal.returns-else-i-gt0
+pub returns-else-here-gt0 : goal.returns-else-here-gt0
 unfolding below_before equals_before
-returns-else-i-gt0 c = simp (le-ltb _ _ c.if-i-gt0.false)
+returns-else-here-gt0 c = simp (le-ltb _ _ c.if-here-gt0.false)

@@ -7,8 +7,8 @@ use Rattle.name_tests.specs.Tests.{string_passes}
 use Rattle.name_tests.proofs.string_passes.Goals as goal
 
 pub overflow_add-result : goal.overflow_add-result
-overflow_add-result c = let t = c.args.table.now in
-    let b : Bytes t = λ i. omega (arith, c.type_inv.table i) in
+overflow_add-result c = let t = c.args.table.now.bytes.now in
+    let b : Bytes t = c.args.table.now.each in
     record { fits = omega (arith, word_lt t b 4, word_lt t b (c.args.at + 2)) }
 
 pub returns : goal.returns

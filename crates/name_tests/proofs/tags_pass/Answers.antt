@@ -10,7 +10,7 @@ use Rattle.name_tests.proofs.tags_pass.Goals as goal
 
 pub returns-then-table-tags_start : goal.returns-then-table-tags_start
 unfolding tags_pass_end
-returns-then-table-tags_start c = let t = c.args.table.now in
+returns-then-table-tags_start c = let t = c.args.table.now.bytes.now in
     let h : length t < tags_end t = omega arith in
     lt-ltb _ _ c.if-table-tags_start.true ∙ sym (lt-ltb _ _ h)
 

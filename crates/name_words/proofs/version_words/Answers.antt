@@ -1,13 +1,13 @@
 -- Each arm is the definition at its case.
-use mathlib.Core.Path.{ap, ◌∙◌}
+use Rattle.std.proofs.Common.{ap, ◌∙◌}
 use Rattle.refusal_words.specs.Words.{told_words}
 use Rattle.name_words.specs.Words.{version_words}
 use Rattle.name_words.proofs.version_words.Goals as goal
 
-pub returns-in-Number : goal.returns-in-Number
+pub returns-in-Ok : goal.returns-in-Ok
 unfolding version_words
-returns-in-Number c = rw (c.in-Number.is, c.new.ensures)
+returns-in-Ok c = rw (c.in-Ok.is, c.new.ensures)
 
-pub returns-in-Refused : goal.returns-in-Refused
+pub returns-in-Err : goal.returns-in-Err
 unfolding version_words
-returns-in-Refused c = rw (c.in-Refused.is, c.new-in-Refused.ensures, c.told_words.ensures ∙ ap told_words c.told.ensures)
+returns-in-Err c = rw (c.in-Err.is, c.new-in-Err.ensures, c.from-in-Err.ensures ∙ ap told_words c.from.ensures)

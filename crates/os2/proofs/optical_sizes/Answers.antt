@@ -1,14 +1,16 @@
 -- The refusal, or else the answer.
-use mathlib.Core.Path.{sym, ap, ◌∙◌}
-use Rattle.os2.specs.Replies.{said_opening}
+use Rattle.std.proofs.Common.{◌∙◌}
+use Rattle.outcomes.proofs.Calls.{outcome_passed}
+use Rattle.os2_acceptance.specs.Replies.{said_refusal}
+use Rattle.os2_answers.specs.Replies.{said_optical_answer}
 use Rattle.os2.proofs.Asked.{asked_refused, asked_parts, asked_answered}
 use Rattle.os2.proofs.optical_sizes.Goals as goal
 
-pub optical_answer-requires : goal.optical_answer-requires
-optical_answer-requires c = (asked_parts _ _ _ (sym (ap said_opening c.in-Known.is) ∙ c.opened.ensures)).opened
+pub invariant_of-optical_answer : goal.invariant_of-optical_answer
+invariant_of-optical_answer c = record { accepted = (asked_parts _ _ _ c.in_ok-known.ensures).opened }
 
-pub returns-in-Refused : goal.returns-in-Refused
-returns-in-Refused c = asked_refused _ _ _ (sym (ap said_opening c.in-Refused.is) ∙ c.opened.ensures)
+pub returns-in_err-known : goal.returns-in_err-known
+returns-in_err-known c = outcome_passed said_optical_answer said_refusal _ c.from_residual.ensures.1 ∙ asked_refused _ _ _ c.in_err-known.ensures
 
-pub returns-in-Known : goal.returns-in-Known
-returns-in-Known c = asked_answered _ _ _ (sym (ap said_opening c.in-Known.is) ∙ c.opened.ensures) c.optical_answer.ensures
+pub returns : goal.returns
+returns c = asked_answered _ _ _ c.in_ok-known.ensures c.optical_answer.ensures

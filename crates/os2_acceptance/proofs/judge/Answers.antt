@@ -5,6 +5,8 @@ use native.Mathlib.Nat.{min-eq_left}
 use native.Mathlib.Omega.{arith}
 use Rattle.os2_rules.specs.Tests.{verdict_of}
 use Rattle.os2_acceptance.proofs.Accepting.{judged_exactly, judged_short, judged_ruled}
+use Rattle.outcomes.proofs.Calls.{error_passed}
+use Rattle.os2_acceptance.specs.Replies.{said_refusal}
 use Rattle.os2_acceptance.proofs.judge.Goals as goal
 
 pub returns-then-table-lt2 : goal.returns-then-table-lt2
@@ -25,14 +27,15 @@ values-requires c =
     let ruled = rw (c.number.ensures, c.version_of-version.ensures) at c.if-number-version.false in
     rw (min-eq_left ruled) at sized
 
-pub returns-in-Kept : goal.returns-in-Kept
-returns-in-Kept c =
+pub returns : goal.returns
+returns c =
     let sized = rw (c.size_read.ensures, c.version_of-version.ensures) at c.if-table-size_read.false in
     let ruled = rw (c.number.ensures, c.version_of-version.ensures) at c.if-number-version.false in
-    c.in-Kept.ensures ∙ (ap verdict_of c.values.ensures ∙ sym (judged_ruled _ _ c.if-table-lt2.false sized ruled))
+    c.in_ok-judge.ensures ∙ (ap verdict_of c.values.ensures ∙ sym (judged_ruled _ _ c.if-table-lt2.false sized ruled))
 
-pub returns-in-Broken : goal.returns-in-Broken
-returns-in-Broken c =
+pub returns-in_err-judge : goal.returns-in_err-judge
+returns-in_err-judge c =
     let sized = rw (c.size_read.ensures, c.version_of-version.ensures) at c.if-table-size_read.false in
     let ruled = rw (c.number.ensures, c.version_of-version.ensures) at c.if-number-version.false in
-    c.in-Broken.ensures ∙ (ap verdict_of c.values.ensures ∙ sym (judged_ruled _ _ c.if-table-lt2.false sized ruled))
+    error_passed said_refusal _ c.from_residual.ensures.1
+    ∙ c.in_err-judge.ensures ∙ (ap verdict_of c.values.ensures ∙ sym (judged_ruled _ _ c.if-table-lt2.false sized ruled))

@@ -16,7 +16,7 @@ told : (v : Value) {c d : Case} → c ≡ d → said_case c v ≡ said_case d v
 told v e = ap (λ (x : Case). said_case x v) e
 
 pub case_of-requires : goal.case_of-requires
-case_of-requires c = open_two _ _ c.requires.opened
+case_of-requires c = open_two _ _ c.args.table.now.accepted
 
 pub number-number-requires : goal.number-number-requires
 number-number-requires c = let h = held _ _ _ _ (sym c.in-Value.ensures) in
@@ -30,5 +30,5 @@ returns-in-Absent c = told _ c.in-Absent.ensures
 
 pub returns-in-Value : goal.returns-in-Value
 returns-in-Value c = ap (λ (x : ℤ). value (integer x))
-    (to_z-of_z {w = w64} (search rules) ∙ (c.plain.ensures ∙ ap pos (c.bit_of.ensures ∙ rw c.number-number.ensures)))
+    (to_z-of_z {w = w64} (search rules) ∙ (c.from.ensures ∙ ap pos (c.bit_of.ensures ∙ rw c.number-number.ensures)))
     ∙ told _ c.in-Value.ensures

@@ -12,18 +12,17 @@ use Rattle.os2_answers.proofs.code_page_answer.Goals as goal
 
 pub code_pages-pages-requires : goal.code_pages-pages-requires
 unfolding own_refusal
-code_pages-pages-requires c = omega (arith, (under 63 c.args.n (bare 7)).0 c.requires.in_range)
+code_pages-pages-requires c = omega (arith, (under 63 c.args.n (bare 7)).0 c.requires)
 
 pub code_page_since-requires : goal.code_page_since-requires
-code_page_since-requires c = c.requires.in_range
+code_page_since-requires c = c.requires
 
 pub bit_in-requires : goal.bit_in-requires
 unfolding since own_refusal
-bit_in-requires c = let l = (under 63 c.args.n (bare 7)).0 c.requires.in_range in
+bit_in-requires c = let l = (under 63 c.args.n (bare 7)).0 c.requires in
     let e = page_since (c.args.n / 32) (omega arith) in
     record {
-      opened = c.requires.opened;
-      lies = rw (c.code_pages-pages.ensures, c.code_page_since.ensures ∙ sym e) (open_lies _ _ c.requires.opened (39 + c.args.n / 32) (omega arith));
+      lies = rw (c.code_pages-pages.ensures, c.code_page_since.ensures ∙ sym e) (open_lies _ _ c.args.table.now.accepted (39 + c.args.n / 32) (omega arith));
       low = omega arith;
     }
 

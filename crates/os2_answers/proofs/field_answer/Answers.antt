@@ -14,11 +14,11 @@ use borrow.Author.Rules.{rules}
 use Rattle.os2_answers.proofs.field_answer.Goals as goal
 
 pub case_of-requires : goal.case_of-requires
-case_of-requires c = open_two _ _ c.requires.1
+case_of-requires c = open_two _ _ c.args.table.now.accepted
 
 pub field_value-requires : goal.field_value-requires
 field_value-requires c = let h = held _ _ _ _ (sym (rw c.entry-f.ensures at c.in-Value.ensures)) in
-    rw c.entry-f.ensures (open_lies _ _ c.requires.1 _ c.requires.0 h.known h.there)
+    rw c.entry-f.ensures (open_lies _ _ c.args.table.now.accepted _ c.requires h.known h.there)
 
 pub returns-in-NotKnown : goal.returns-in-NotKnown
 unfolding since on_whole

@@ -12,17 +12,17 @@ use Rattle.os2_answers.proofs.Cases.{given_case}
 use Rattle.os2_answers.proofs.optical_answer.Goals as goal
 
 pub case_of-requires : goal.case_of-requires
-case_of-requires c = open_two _ _ c.requires
+case_of-requires c = open_two _ _ c.args.table.now.accepted
 
 pub word-requires : goal.word-requires
 unfolding since field_of catalogue
 word-requires c = let h = held _ _ _ _ (sym c.in-Value.ensures) in
-    open_word _ _ c.requires 46 (omega arith) refl h.known h.there
+    open_word _ _ c.args.table.now.accepted 46 (omega arith) refl h.known h.there
 
 pub word-requires-in-Value : goal.word-requires-in-Value
 unfolding since field_of catalogue
 word-requires-in-Value c = let h = held _ _ _ _ (sym c.in-Value.ensures) in
-    open_word _ _ c.requires 47 (omega arith) refl h.known h.there
+    open_word _ _ c.args.table.now.accepted 47 (omega arith) refl h.known h.there
 
 pub returns-in-NotKnown : goal.returns-in-NotKnown
 unfolding since on_whole

@@ -13,11 +13,11 @@ use Rattle.os2_answers.proofs.Cases.{given_case}
 use Rattle.os2_answers.proofs.rights_answer.Goals as goal
 
 pub case_of-requires : goal.case_of-requires
-case_of-requires c = open_two _ _ c.requires
+case_of-requires c = open_two _ _ c.args.table.now.accepted
 
 pub word-requires : goal.word-requires
 unfolding field_of catalogue
-word-requires c = open_word _ _ c.requires 4 (omega arith) refl zero-le zero-le
+word-requires c = open_word _ _ c.args.table.now.accepted 4 (omega arith) refl zero-le zero-le
 
 pub returns-in-NotKnown : goal.returns-in-NotKnown
 unfolding since on_whole

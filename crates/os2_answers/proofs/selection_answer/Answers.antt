@@ -11,8 +11,8 @@ use Rattle.os2_answers.proofs.selection_answer.Goals as goal
 
 pub bit_in-requires : goal.bit_in-requires
 unfolding own_refusal field_of catalogue
-bit_in-requires c = let few = (under 9 c.args.n (bare 7)).0 c.requires.in_range in
-    record { opened = c.requires.opened; lies = λ k w. open_lies _ _ c.requires.opened 31 (omega arith) zero-le zero-le; low = omega arith }
+bit_in-requires c = let few = (under 9 c.args.n (bare 7)).0 c.requires in
+    record { lies = λ k w. open_lies _ _ c.args.table.now.accepted 31 (omega arith) zero-le zero-le; low = omega arith }
 
 pub returns : goal.returns
 unfolding given on_whole value_of field_of catalogue

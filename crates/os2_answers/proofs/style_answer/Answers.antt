@@ -13,20 +13,20 @@ use Rattle.os2_answers.proofs.Cases.{given_case}
 use Rattle.os2_answers.proofs.style_answer.Goals as goal
 
 pub case_of-requires : goal.case_of-requires
-case_of-requires c = open_two _ _ c.requires
+case_of-requires c = open_two _ _ c.args.table.now.accepted
 
 pub word-requires : goal.word-requires
 unfolding field_of catalogue
-word-requires c = open_word _ _ c.requires 2 (omega arith) refl zero-le zero-le
+word-requires c = open_word _ _ c.args.table.now.accepted 2 (omega arith) refl zero-le zero-le
 
 pub word-requires-in-Value : goal.word-requires-in-Value
 unfolding field_of catalogue
-word-requires-in-Value c = open_word _ _ c.requires 3 (omega arith) refl zero-le zero-le
+word-requires-in-Value c = open_word _ _ c.args.table.now.accepted 3 (omega arith) refl zero-le zero-le
 
 pub position_of-requires : goal.position_of-requires
 unfolding since values_of field_of catalogue
 position_of-requires c = let h = held _ _ _ _ (sym c.in-Value.ensures) in
-    rw c.word-in-Value.ensures ((open_rules _ _ c.requires (h.old refl) 2).rule_2 refl)
+    rw c.word-in-Value.ensures ((open_rules _ _ c.args.table.now.accepted (h.old refl) 2).rule_2 refl)
 
 pub returns-in-NotKnown : goal.returns-in-NotKnown
 unfolding since on_whole

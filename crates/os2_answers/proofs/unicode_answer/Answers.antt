@@ -12,18 +12,17 @@ use Rattle.os2_answers.proofs.unicode_answer.Goals as goal
 
 pub unicode_range-range-requires : goal.unicode_range-range-requires
 unfolding own_refusal
-unicode_range-range-requires c = omega (arith, (under 127 c.args.n (bare 7)).0 c.requires.in_range)
+unicode_range-range-requires c = omega (arith, (under 127 c.args.n (bare 7)).0 c.requires)
 
 pub bit_in-requires : goal.bit_in-requires
 unfolding own_refusal
-bit_in-requires c = let l = (under 127 c.args.n (bare 7)).0 c.requires.in_range in
+bit_in-requires c = let l = (under 127 c.args.n (bare 7)).0 c.requires in
     record {
-      opened = c.requires.opened;
-      lies = rw c.unicode_range-range.ensures (open_lies _ _ c.requires.opened (26 + c.args.n / 32) (omega arith));
+      lies = rw c.unicode_range-range.ensures (open_lies _ _ c.args.table.now.accepted (26 + c.args.n / 32) (omega arith));
       low = omega arith;
     }
 
 pub returns : goal.returns
 unfolding given since on_whole value_of field_of own_refusal
-returns c = let l = (under 127 c.args.n (bare 7)).0 c.requires.in_range in
+returns c = let l = (under 127 c.args.n (bare 7)).0 c.requires in
     rw (c.unicode_range-range.ensures, range_since (c.args.n / 32) (omega arith)) at c.bit_in.ensures

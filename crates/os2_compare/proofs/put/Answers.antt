@@ -23,8 +23,8 @@ bounds-rows-at-5 c = simp length-set (omega arith)
 
 pub returns : goal.returns
 returns c = five_stores _ _ _
-    (to_z-of_z {w = w64} (search rules) ∙ c.plain.ensures)
-    (to_z-of_z {w = w64} (search rules) ∙ (c.plain-2.ensures ∙ ap pos c.kind.ensures))
+    (to_z-of_z {w = w64} (search rules) ∙ c.from.ensures)
+    (to_z-of_z {w = w64} (search rules) ∙ (c.from-2.ensures ∙ ap pos c.kind.ensures))
     (to_z-of_z {w = w64} (search rules) ∙ c.figure.ensures)
-    (to_z-of_z {w = w64} (search rules) ∙ (c.plain-3.ensures ∙ ap pos c.kind-2.ensures))
+    (to_z-of_z {w = w64} (search rules) ∙ (c.from-3.ensures ∙ ap pos c.kind-2.ensures))
     (to_z-of_z {w = w64} (search rules) ∙ c.figure-2.ensures)

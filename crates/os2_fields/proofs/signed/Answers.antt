@@ -1,18 +1,17 @@
--- The lower half stands for itself, the upper half for itself less 65,536.
-use native.Mathlib.Omega.{arith}
-use borrow.Author.Tests.{lt-ltb, le-ltb}
+-- The library's reading of 16 bits as a signed number is the definition's.
+use Rattle.std.proofs.Common.{rules, ℕ, ◌≡◌, ◌<◌, ◌∙◌, arith}
+use mir.Val.{to_z}
 use mir.Facts.{to_z-of_z}
+use borrow.Author.Tests.{lt-ltb}
+use mir.Syntax.{w16, w64}
 use Rattle.os2_fields.specs.Fields.{signed_of}
-use Rattle.os2_fields.proofs.Laws.{to_z_small, less_fits}
 use Rattle.os2_fields.proofs.signed.Goals as goal
 
-pub returns-then-x-lt32768 : goal.returns-then-x-lt32768
+two_bytes : (x : ℕ) → x < 65536 → to_z w16 x ≡ signed_of 2 x
 unfolding signed_of
-returns-then-x-lt32768 c = rw (lt-ltb c.args.x 32768 (omega arith)) (to_z_small _ (omega arith))
-
-pub overflow_sub-result : goal.overflow_sub-result
-overflow_sub-result c = rw (to_z_small c.args.x (omega arith)) (less_fits c.args.x (omega arith))
+two_bytes x h = simp (lt-ltb x 65536 h)
 
 pub returns : goal.returns
-unfolding signed_of
-returns c = rw (le-ltb c.args.x 32768 (omega arith)) (rw (to_z_small c.args.x (omega arith)) (to_z-of_z (less_fits c.args.x (omega arith))))
+returns c =
+    to_z-of_z {w = w64} (search rules)
+    ∙ (c.from.ensures ∙ (to_z-of_z {w = w16} (search rules) ∙ (c.cast_signed.ensures ∙ two_bytes c.args.x (omega arith))))

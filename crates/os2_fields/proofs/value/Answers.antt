@@ -18,4 +18,4 @@ returns-then-f c = let signed = c.if-f.true in
     to_z-of_z {w = w64} (search rules) ∙ (c.signed.ensures ∙ (ap (signed_of 2) c.read_u16.ensures ∙ sym (value_signed _ _ signed two)))
 
 pub returns : goal.returns
-returns c = to_z-of_z {w = w64} (search rules) ∙ (c.plain.ensures ∙ (ap pos c.number.ensures ∙ sym (value_plain _ _ c.if-f.false)))
+returns c = to_z-of_z {w = w64} (search rules) ∙ (c.from.ensures ∙ (ap pos c.number.ensures ∙ sym (value_plain _ _ c.if-f.false)))

@@ -1,4 +1,5 @@
 -- Each arm is the question's own range and refusal.
+use mathlib.Core.Logic.{⊎_elim}
 use Rattle.os2_questions.specs.Questions.{own_refusal}
 use Rattle.os2_questions.proofs.in_range.Goals as goal
 
@@ -20,12 +21,4 @@ returns-in-CodePageBit c = rw c.in-CodePageBit.is c.at_most-in-CodePageBit.ensur
 
 pub returns-in-Rights : goal.returns-in-Rights
 unfolding own_refusal
-returns-in-Rights c = rw c.in-Rights.is
-
-pub returns-in-StylePosition : goal.returns-in-StylePosition
-unfolding own_refusal
-returns-in-StylePosition c = rw c.in-StylePosition.is
-
-pub returns-in-OpticalSizes : goal.returns-in-OpticalSizes
-unfolding own_refusal
-returns-in-OpticalSizes c = rw c.in-OpticalSizes.is
+returns-in-Rights c = ⊎_elim (λ e. rw e) (λ o. ⊎_elim (λ e. rw e) (λ e. rw e) o) c.in-Rights.is

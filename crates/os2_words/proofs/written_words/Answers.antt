@@ -1,13 +1,11 @@
 -- Each arm is the definition at its case.
-use mathlib.Core.Path.{ap, ◌∙◌}
-use Rattle.refusal_words.specs.Words.{told_words}
 use Rattle.os2_words.specs.Words.{written_words}
 use Rattle.os2_words.proofs.written_words.Goals as goal
 
-pub returns-in-Size : goal.returns-in-Size
+pub returns-in-Ok-clause-written : goal.returns-in-Ok-clause-written
 unfolding written_words
-returns-in-Size c = rw (c.in-Size.is, c.new.ensures)
+returns-in-Ok-clause-written g c = rw c.in-Ok.is c.new.ensures
 
-pub returns-in-Refused : goal.returns-in-Refused
+pub returns-in-Err-clause-refused : goal.returns-in-Err-clause-refused
 unfolding written_words
-returns-in-Refused c = rw (c.in-Refused.is, c.new-in-Refused.ensures, c.told_words.ensures ∙ ap told_words c.told.ensures)
+returns-in-Err-clause-refused g c = rw c.in-Err.is (c.into.result, c.into.ensures, rw (c.new-in-Err.ensures, c.from.ensures))

@@ -7,9 +7,6 @@ use Rattle.os2_fields.specs.Fields.{values_of}
 use Rattle.os2_writer.proofs.Steps.{word_for}
 use Rattle.os2_writer.proofs.values.Goals as goal
 
-pub overflow_cast-result : goal.overflow_cast-result
-overflow_cast-result c = record { fits = omega (arith, c.requires.0.most) }
-
 pub word-requires : goal.word-requires
 unfolding field_of catalogue
 word-requires c = word_for _ _ c.requires.0 2 (omega arith) refl refl zero-le

@@ -8,20 +8,22 @@ use Rattle.os2_store.proofs.Writings.{success, code_version, room_written, room_
 use Rattle.os2_store.proofs.Signs.{kept}
 use Rattle.os2_writer.proofs.Signs.{version_known}
 use borrow.Author.Rules.{rules}
+use Rattle.outcomes.proofs.Calls.{outcome_passed}
+use Rattle.os2_writer.specs.Replies.{said_refusal}
 use Rattle.os2_writer.proofs.write.Goals as goal
 
 -- where the check answers a size, its tests have passed
 pub overflow_cast-version : goal.overflow_cast-version
 overflow_cast-version c =
     let fit : SFits w64 (number_for c.args.numbers 0) = record { sfits = omega arith } in
-    let done = success _ _ _ (sym c.in-Size.ensures) in
+    let done = success _ _ _ (sym c.in_ok-size.ensures) in
     let k = version_known _ fit done.versioned in
     rw (kept _ fit, k.0) (tt, record { fits = omega (arith, k.1) })
 
 pub store-requires : goal.store-requires
 store-requires c =
     let fit : SFits w64 (number_for c.args.numbers 0) = record { sfits = omega arith } in
-    let done = success _ _ _ (sym c.in-Size.ensures) in
+    let done = success _ _ _ (sym c.in_ok-size.ensures) in
     let k = version_known _ fit done.versioned in
     let version = code_version c.args.numbers _ k.0 in
     record {
@@ -29,14 +31,16 @@ store-requires c =
       long = rw version at done.long;
     }
 
-pub returns-in-Refused : goal.returns-in-Refused
-returns-in-Refused c = (c.in-Refused.ensures, sym (room_refused _ _ _ _ (sym c.in-Refused.ensures)))
+pub returns-in_err-size : goal.returns-in_err-size
+returns-in_err-size c =
+    let e = outcome_passed (λ n. n) said_refusal _ c.from_residual.ensures.1 ∙ c.in_err-size.ensures in
+    (e, sym (room_refused _ _ _ _ (sym c.in_err-size.ensures)))
 
-pub returns-in-Size : goal.returns-in-Size
-returns-in-Size c =
+pub returns : goal.returns
+returns c =
     let fit : SFits w64 (number_for c.args.numbers 0) = record { sfits = omega arith } in
-    let done = success _ _ _ (sym c.in-Size.ensures) in
+    let done = success _ _ _ (sym c.in_ok-size.ensures) in
     let k = version_known _ fit done.versioned in
     let version = code_version c.args.numbers _ k.0 in
-    let written = rw version at (room_written c.args.numbers c.args.room.now c.in-Size.size (sym c.in-Size.ensures)) in
-    (c.in-Size.ensures, c.store.ensures ∙ sym written)
+    let written = rw version at (room_written c.args.numbers c.args.room.now c.in_ok-size.size (sym c.in_ok-size.ensures)) in
+    (c.in_ok-size.ensures, c.store.ensures ∙ sym written)

@@ -19,7 +19,7 @@ use Rattle.version_text.proofs.version_of.Goals as goal
 -- the length is not odd, so the starts are searched, and what is found is answered
 searched : (wide : Bool) (text : List ℕ) → odd wide text ≡ false
     → version_in wide text ≡ found_or (bare 25) (first_among (number_at (characters wide text)) (length (characters wide text))) answered
-unfolding version_in when unless
+unfolding version_in when unless found_or
 searched wide text e = rw e
 
 -- the next turn, where a start yields nothing
@@ -28,7 +28,7 @@ skip : (l : List ℕ) {count start : ℕ} → (start ≤ count) × (first_among 
 skip l inv h e = (omega arith, first_more _ _ inv.1 e)
 
 pub returns-then-is_odd : goal.returns-then-is_odd
-unfolding version_in when unless
+unfolding version_in when unless found_or
 returns-then-is_odd c = rw (← c.is_odd.ensures, c.if-is_odd.true)
 
 pub starts-init : goal.starts-init
@@ -38,22 +38,22 @@ pub starts-preserved-then-not-may_start : goal.starts-preserved-then-not-may_sta
 starts-preserved-then-not-may_start c =
     skip _ c.starts.invariant c.if-count-next.false (no_start _ _ (sym c.may_start.ensures ∙ c.if-not-may_start.true))
 
-pub loop-major-init : goal.loop-major-init
-loop-major-init c = reading_none _ _ (omega (arith, c.count-count.ensures))
+pub loop-string-init : goal.loop-string-init
+loop-string-init c = reading_none _ _ (omega (arith, c.count-count.ensures))
 
 pub overflow_add-end : goal.overflow_add-end
-overflow_add-end c = omega (arith, digit_within _ _ (sym c.digit_at.ensures ∙ c.loop-major-test.true), c.count-count.ensures)
+overflow_add-end c = omega (arith, digit_within _ _ (sym c.digit_at.ensures ∙ c.loop-string-test.true), c.count-count.ensures)
 
-pub loop-major-smaller : goal.loop-major-smaller
-loop-major-smaller c = omega (arith, digit_within _ _ (sym c.digit_at.ensures ∙ c.loop-major-test.true))
+pub loop-string-smaller : goal.loop-string-smaller
+loop-string-smaller c = omega (arith, digit_within _ _ (sym c.digit_at.ensures ∙ c.loop-string-test.true))
 
-pub loop-major-preserved : goal.loop-major-preserved
-loop-major-preserved c =
-    rw (c.with_digit-major.ensures, c.code.ensures) (reading_more _ _ _ _ (sym c.digit_at.ensures ∙ c.loop-major-test.true) c.loop-major.invariant)
+pub loop-string-preserved : goal.loop-string-preserved
+loop-string-preserved c =
+    rw (c.with_digit-major.ensures, c.code.ensures) (reading_more _ _ _ _ (sym c.digit_at.ensures ∙ c.loop-string-test.true) c.loop-string.invariant)
 
 pub starts-preserved-then-code-ne-PERIOD : goal.starts-preserved-then-code-ne-PERIOD
 starts-preserved-then-code-ne-PERIOD c =
-    let first = reading_end _ _ _ _ (sym c.digit_at.ensures ∙ c.loop-major-test.false) c.loop-major.invariant in
+    let first = reading_end _ _ _ _ (sym c.digit_at.ensures ∙ c.loop-string-test.false) c.loop-string.invariant in
     skip _ c.starts.invariant c.if-count-next.false (no_period _ _ _ _ first (λ q. c.if-code-ne-PERIOD.true (c.code-in-starts.ensures ∙ q)))
 
 pub overflow_add-second : goal.overflow_add-second
@@ -61,7 +61,7 @@ overflow_add-second c = omega (arith, period_within _ _ (sym c.code-in-starts.en
 
 pub starts-preserved-then-not-digit_at : goal.starts-preserved-then-not-digit_at
 starts-preserved-then-not-digit_at c =
-    let first = reading_end _ _ _ _ (sym c.digit_at.ensures ∙ c.loop-major-test.false) c.loop-major.invariant in
+    let first = reading_end _ _ _ _ (sym c.digit_at.ensures ∙ c.loop-string-test.false) c.loop-string.invariant in
     skip _ c.starts.invariant c.if-count-next.false (no_second _ _ _ _ first (sym c.digit_at-in-starts.ensures ∙ c.if-not-digit_at.true))
 
 pub loop-start-init : goal.loop-start-init
@@ -69,12 +69,12 @@ loop-start-init c = reading_none _ _ (omega (arith, period_within _ _ (sym c.cod
 
 pub starts-preserved-then-major-ge-LARGE : goal.starts-preserved-then-major-ge-LARGE
 starts-preserved-then-major-ge-LARGE c =
-    let first = reading_end _ _ _ _ (sym c.digit_at.ensures ∙ c.loop-major-test.false) c.loop-major.invariant in
+    let first = reading_end _ _ _ _ (sym c.digit_at.ensures ∙ c.loop-string-test.false) c.loop-string.invariant in
     skip _ c.starts.invariant c.if-count-next.false (first_large _ _ _ _ first c.if-major-ge-LARGE.true)
 
 pub starts-preserved : goal.starts-preserved
 starts-preserved c =
-    let first = reading_end _ _ _ _ (sym c.digit_at.ensures ∙ c.loop-major-test.false) c.loop-major.invariant in
+    let first = reading_end _ _ _ _ (sym c.digit_at.ensures ∙ c.loop-string-test.false) c.loop-string.invariant in
     let second = reading_end _ _ _ _ (sym c.digit_at-in-loop-start.ensures ∙ c.if-not-digit_at-2.true) c.loop-start.invariant in
     skip _ c.starts.invariant c.if-count-next.false (second_large _ _ _ _ first _ _ second c.if-minor-ge-LARGE.true)
 
@@ -92,18 +92,18 @@ loop-start-preserved c =
 pub returns-then-count-next : goal.returns-then-count-next
 unfolding found_or
 returns-then-count-next c =
-    let text = c.args.text.now in
-    let l = characters c.args.wide text in
+    let text = c.args.string.text.now in
+    let l = characters c.args.string.wide text in
     let e : length l ≡ c.starts.next = omega (arith, c.count-count.ensures) in
-    let even = searched c.args.wide text (sym c.is_odd.ensures ∙ c.if-is_odd.false) in
+    let even = searched c.args.string.wide text (sym c.is_odd.ensures ∙ c.if-is_odd.false) in
     sym (even ∙ ap (λ o. found_or (bare 25) o answered) (ap (first_among (number_at l)) e ∙ c.starts.invariant.1))
 
 pub returns-else-minor-ge-LARGE : goal.returns-else-minor-ge-LARGE
 unfolding found_or
 returns-else-minor-ge-LARGE c =
-    let text = c.args.text.now in
-    let l = characters c.args.wide text in
-    let first = reading_end _ _ _ _ (sym c.digit_at.ensures ∙ c.loop-major-test.false) c.loop-major.invariant in
+    let text = c.args.string.text.now in
+    let l = characters c.args.string.wide text in
+    let first = reading_end _ _ _ _ (sym c.digit_at.ensures ∙ c.loop-string-test.false) c.loop-string.invariant in
     let second = reading_end _ _ _ _ (sym c.digit_at-in-loop-start.ensures ∙ c.if-not-digit_at-2.true) c.loop-start.invariant in
     let found =
     yields l _ _ _ first _ _ second
@@ -112,6 +112,6 @@ returns-else-minor-ge-LARGE c =
     (sym c.digit_at-in-starts.ensures ∙ c.if-not-digit_at.false)
     c.if-major-ge-LARGE.false
     c.if-minor-ge-LARGE.false in
-    let even = searched c.args.wide text (sym c.is_odd.ensures ∙ c.if-is_odd.false) in
+    let even = searched c.args.string.wide text (sym c.is_odd.ensures ∙ c.if-is_odd.false) in
     let within : c.starts.next < length l = omega (arith, c.count-count.ensures) in
     sym (even ∙ ap (λ o. found_or (bare 25) o answered) (first_stop _ _ _ within c.starts.invariant.1 found))

@@ -10,20 +10,20 @@ use Rattle.version_text.specs.Versions.{number_at}
 use Rattle.version_text.proofs.Groups.{Reading}
 use Rattle.version_text.proofs.version_of.Given as goal
 
-abbrev pub invariant-loop-major : goal.invariant-loop-major
-invariant-loop-major l = Reading (characters l.wide l.text) l.start l.end l.major
+abbrev pub invariant-loop-string : goal.invariant-loop-string
+invariant-loop-string l = Reading (characters l.string.wide l.string.text.now) l.start l.end l.major
 
-abbrev pub decreases-loop-major : goal.decreases-loop-major
-decreases-loop-major l = length (characters l.wide l.text) - l.end
+abbrev pub decreases-loop-string : goal.decreases-loop-string
+decreases-loop-string l = length (characters l.string.wide l.string.text.now) - l.end
 
 abbrev pub invariant-loop-start : goal.invariant-loop-start
-invariant-loop-start l = Reading (characters l.wide l.text) l.second l.stop l.minor
+invariant-loop-start l = Reading (characters l.string.wide l.string.text.now) l.second l.stop l.minor
 
 abbrev pub decreases-loop-start : goal.decreases-loop-start
-decreases-loop-start l = length (characters l.wide l.text) - l.stop
+decreases-loop-start l = length (characters l.string.wide l.string.text.now) - l.stop
 
 abbrev pub invariant-starts : goal.invariant-starts
-invariant-starts l = (l.next ≤ l.count) × (first_among (number_at (characters l.wide l.text)) l.next ≡ none)
+invariant-starts l = (l.next ≤ l.count) × (first_among (number_at (characters l.string.wide l.string.text.now)) l.next ≡ none)
 
 abbrev pub decreases-starts : goal.decreases-starts
 decreases-starts l = l.count - l.next
