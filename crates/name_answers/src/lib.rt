@@ -164,7 +164,8 @@ pub fn accepted_version(table: &Accepted<'_>) -> Result<VersionAt, VersionRefusa
 // The answer from the strings of two records, i of platform 1 and j of platform 3.
 fn from_records(table: &Accepted<'_>, i: usize, j: usize) -> Result<Text, PostscriptRefusal>
     requires { (i < count table.now.bytes.now) × (j < count table.now.bytes.now) }
-    ensures { said_name result ≡ from_strings (text_of table.now.bytes.now i) (bytes_of table.now.bytes.now i) (bytes_of table.now.bytes.now j) }
+    ensures { said_name result ≡ from_strings (text_of table.now.bytes.now i)
+        (bytes_of table.now.bytes.now i) (bytes_of table.now.bytes.now j) }
 {
     let name = name_search::text_of(&RecordAt {
         table: table.bytes,

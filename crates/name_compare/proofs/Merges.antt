@@ -136,7 +136,8 @@ module _ (left right : List ℕ) (k : Both left right) where
           is = least x m b (λ q. omega arith) (λ q. omega (arith, g q)) (ap entry_of d ∙ passes_left x);
         }
 
-    pub right_only_lem : key_at right j < key_count → j < count right → (i < count left → key_at right j < key_at left i) → Reached left right i (j + 1) (out ++ passed (key_at right j) (Some OnlyRight))
+    pub right_only_lem : key_at right j < key_count → j < count right → (i < count left → key_at right j < key_at left i) →
+        Reached left right i (j + 1) (out ++ passed (key_at right j) (Some OnlyRight))
     unfolding which_of
     right_only_lem m h g =
         let x = key_at right j in

@@ -56,7 +56,8 @@ pub listed : Listed
 unfolding number key_of bytes_of same passed key_numbered
 listed =
     let a = left_only_lem left right both (started left right) (key_below left left_bytes_lem 0) (omega arith) (λ h. first_left) in
-    let b = in_both_lem left right both a (key_below left left_bytes_lem 1) (omega arith) (omega arith) refl (Some OtherBytes) (passes_other (key_at left 1) (same (bytes_of left 1) (bytes_of right 0)) refl) in
+    let b = in_both_lem left right both a (key_below left left_bytes_lem 1) (omega arith) (omega arith) refl (Some OtherBytes)
+    (passes_other (key_at left 1) (same (bytes_of left 1) (bytes_of right 0)) refl) in
     let c = in_both_lem left right both b (key_below left left_bytes_lem 2) (omega arith) (omega arith) refl None (passes_same (key_at left 2) (same (bytes_of left 2) (bytes_of right 1)) refl) in
     let d = right_only_lem left right both c (key_below right right_bytes_lem 2) (omega arith) (λ h. absurd (omega arith)) in
     sym (finished left right both d (omega arith) (omega arith))

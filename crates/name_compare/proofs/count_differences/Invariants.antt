@@ -9,7 +9,8 @@ use Rattle.name_compare.specs.Steps.{Reached}
 use Rattle.name_compare.proofs.count_differences.Given as goal
 
 abbrev pub invariant-loop-i : goal.invariant-loop-i
-invariant-loop-i l = (l.i ≤ layout.count l.pair.left.bytes.now) × (l.j ≤ layout.count l.pair.right.bytes.now) × (l.count ≤ l.i + l.j) × ((out : List Difference) × Reached l.pair.left.bytes.now l.pair.right.bytes.now l.i l.j out × (l.count ≡ length out))
+invariant-loop-i l = (l.i ≤ layout.count l.pair.left.bytes.now) × (l.j ≤ layout.count l.pair.right.bytes.now) × (l.count ≤ l.i + l.j)
+    × ((out : List Difference) × Reached l.pair.left.bytes.now l.pair.right.bytes.now l.i l.j out × (l.count ≡ length out))
 
 abbrev pub decreases-loop-i : goal.decreases-loop-i
 decreases-loop-i l = l.m + l.n - (l.i + l.j)

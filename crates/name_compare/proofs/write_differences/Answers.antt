@@ -68,7 +68,9 @@ loop-done-preserved-in-Some c =
     let out = l.3.0 in
     let next = s.lists out l.3.1 in
     let stored = c.put.ensures ∙ ap (sets _ _) (sym (row_one _ _)) ∙ ap (λ w. sets c.loop-done.rows (5 * c.loop-done.done) (rows_of row_of (passed c.advance-s.result.key w))) (sym c.in-Some.is) in
-    let w = grown row_of five out (passed c.advance-s.result.key c.advance-s.result.which) _ (fits (both_of c.args.pair.now) (length c.args.rows.now) c.requires _ _ out next) (ap (λ n. 5 * n) l.3.2) l.3.3 stored in
+    let more = passed c.advance-s.result.key c.advance-s.result.which in
+    let room = fits (both_of c.args.pair.now) (length c.args.rows.now) c.requires _ _ out next in
+    let w = grown row_of five out more _ room (ap (λ n. 5 * n) l.3.2) l.3.3 stored in
     (s.on_left, s.on_right, w.0, (out ++ passed _ _, next, omega (arith, one_more c.advance-s.result.key out c.in-Some.is, l.3.2), w.1))
 
 pub loop-done-preserved : goal.loop-done-preserved
