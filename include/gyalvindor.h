@@ -6,9 +6,8 @@
  *
  *     cc -Iinclude program.c target/staticlib/libgyalvindor.a
  *
- * Of the C library the archive needs memcpy, memmove and memset only. It holds no state, allocates nothing, keeps no
- * pointer after a call and never fails: every call answers, whatever the bytes and numbers are. Any number of threads
- * may call it at once.
+ * Of the C library the archive needs memcpy and memset only. It holds no state, allocates nothing, keeps no pointer after a
+ * call and never fails: every call answers, whatever the bytes and numbers are. Any number of threads may call it at once.
  *
  * Tables. A table is lent as a pointer to its first byte and its length in bytes. It is the bytes of one table, not of a
  * whole font; finding tables in a font file is left to the caller. Pointers must not be NULL, also where the length is 0.

@@ -236,13 +236,16 @@ fn kept(name: &[u8], face: FaceAt) -> Slot
     }
 }
 
-// A text of at most 64 bytes, and zeros behind it.
+// A text of at most 64 bytes, and zeros behind it. (The family overlaps no text, so the compiler makes a call of `memcpy` of the loop; `copy_from_slice` would be
+// one of `memmove`.)
 fn front(text: &[u8]) -> [u8; FAMILY_BYTES]
     requires { length text.now ≤ 64 }
     ensures { take (length text.now) result ≡ text.now }
 {
     let mut family = [0; FAMILY_BYTES];
-    family[..text.len()].copy_from_slice(text);
+    for (i, &byte) in text.iter().enumerate() {
+        family[i] = byte;
+    }
     family
 }
 

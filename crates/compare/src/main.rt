@@ -8,7 +8,7 @@ use compare_lines::{blame_line, name_line, os2_line, too_long_line};
 use comparing::{Blame, ROW_SIZE, Side};
 use level::Level;
 use lines::Line;
-use listing_io::{NoTable, Page, argument, argument_count, read_table, say, write_line};
+use listing_io::{NoTable, Page, argument, arguments, read_table, say, write_line};
 use os2_acceptance::Refusal;
 use outcomes::Told;
 
@@ -19,7 +19,7 @@ const NAME_NUMBERS: usize = 54600;
 const OS2_NUMBERS: usize = 240;
 
 fn main(rt: HostRuntime) {
-    let count = argument_count(&rt);
+    let count = arguments(&rt).end;
     if count < 2 {
         say(&rt, b"compare: neither os2 nor name\n");
         return;

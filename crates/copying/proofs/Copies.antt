@@ -6,7 +6,7 @@ use mathlib.Core.List.{List, [], ◌∷◌, ◌++◌}
 use native.Mathlib.Nat.{add-zero}
 use native.Mathlib.Omega.{arith}
 use lib.ListN.{length, take, drop, get_or, set, length-take, length-drop}
-use lib.Seq.{sets, sets-eq, set_comm, drop-cons, drop-drop, take-add, take_all}
+use lib.Seq.{sets, sets-eq, length-sets, set_comm, drop-cons, drop-drop, take-add, take_all}
 use borrow.Rule.Slice.PartMut.{put_mid}
 use Rattle.std.proofs.lemmas.Slice.{put_mid-paste}
 
@@ -60,6 +60,43 @@ pub block : (room : List ℕ) (at : ℕ) (s : List ℕ) (start k : ℕ) → star
 block room at s start k h =
     stored_are room at 0 (bytes_at s start 0 k)
     ∙ rw (add-zero at) (ap (sets room at) (bytes_are s start 0 k (omega arith) ∙ ap (λ (m : ℕ). take k (drop m s)) (add-zero start)))
+
+-- ---- block after block
+
+module _ (held : List ℕ) (at : ℕ) (pool : List ℕ) (start n : ℕ) where
+  -- after i bytes of n
+  pub record Copied (room : List ℕ) (i : ℕ) : Type 0 where
+    pub upto : i ≤ n
+    pub long : length room ≡ length held
+    pub holds : room ≡ sets held at (take i (drop start pool))
+
+  pub copied_at : {room : List ℕ} {i j : ℕ} → Copied room i → i ≡ j → Copied room j
+  copied_at {room} c e = rw (← e) c
+
+  -- k more
+  pub more_copied : start + n ≤ length pool → {room next : List ℕ} {i : ℕ} (k : ℕ) → i + k ≤ n → Copied room i
+      → next ≡ sets room (at + i) (take k (drop (start + i) pool)) → Copied next (i + k)
+  more_copied h {room} {next} {i} k l c e =
+      record {
+        upto = l;
+        long = ap length e ∙ length-sets room (at + i) (take k (drop (start + i) pool)) ∙ c.long;
+        holds =
+            e ∙ ap (λ (r : List ℕ). sets r (at + i) (take k (drop (start + i) pool))) c.holds
+            ∙ sym (sets_append held at (take i (drop start pool)) (take k (drop (start + i) pool)) first)
+            ∙ ap (sets held at) (ap (λ (r : List ℕ). take i (drop start pool) ++ take k r) (sym (drop-drop i start pool)) ∙ sym (take-add i k (drop start pool)));
+      }
+    where
+      first : length (take i (drop start pool)) ≡ i
+      first = simp (length-take, length-drop) (omega arith)
+
+  -- one more
+  pub one_copied : start + n ≤ length pool → {room : List ℕ} {i : ℕ} → i < n → Copied room i → Copied (set room (at + i) (get_or pool (start + i) 0)) (i + 1)
+  one_copied h {room} {i} l c =
+      let d : drop (start + i) pool ≡ get_or pool (start + i) 0 ∷ drop (suc (start + i)) pool = drop-cons pool (start + i) 0 (omega arith) in
+      more_copied h 1 (omega arith) c (ap (λ (r : List ℕ). sets room (at + i) (take 1 r)) (sym d))
+
+  pub all_copied : {room : List ℕ} {i : ℕ} → Copied room i → n ≤ i → room ≡ sets held at (take n (drop start pool))
+  all_copied {room} {i} c l = let z : i ≡ n = let u = c.upto in omega arith in c.holds ∙ ap (λ (m : ℕ). sets held at (take m (drop start pool))) z
 
 -- ---- in two goes
 

@@ -7,6 +7,7 @@ ghost use Rattle.std.specs.Prelude.{◌+◌, ◌≤◌, ◌≡◌, List, ℕ, []
 ghost use Rattle.outcomes.specs.Outcomes.{refusal_of};
 ghost use Rattle.lines.specs.Numerals.{most_digits, decimal};
 ghost use Rattle.lines.specs.Lines.{refusal_room, refusal_line, too_long};
+ghost use Rattle.lines.specs.Pieces.{Put};
 
 use outcomes::Told;
 use std::marker::Model;
@@ -43,6 +44,16 @@ impl<const ROOM: usize> Buffer<ROOM> {
         Buffer {
             bytes: [0; ROOM],
             len: 0,
+        }
+    }
+
+    // One with the first `len` of these bytes, or with all of them, where there are not so many.
+    pub fn of(bytes: [u8; ROOM], len: usize) -> Self
+        ensures { result ≡ take len bytes.entry }
+    {
+        Buffer {
+            bytes,
+            len: len.min(ROOM),
         }
     }
 
@@ -107,6 +118,17 @@ impl<const ROOM: usize> Buffer<ROOM> {
         }
         self.put(b"\n");
     }
+}
+
+// Puts what a buffer holds behind the first `at` of lent bytes, and answers where it ends.
+pub fn append<const ROOM: usize>(out: &mut [u8], at: usize, piece: &Buffer<ROOM>) -> usize
+    requires { at + length piece.now ≤ length out.old }
+    ensures { Put out.old at out.new result (length piece.now) piece.now }
+{
+    let text = piece.as_bytes();
+    let end = at + text.len();
+    out[at..end].copy_from_slice(text);
+    end
 }
 
 // The line of a refusal.

@@ -9,7 +9,7 @@ use outcomes::Told;
 
 fn main(rt: HostRuntime) {
     list_argument(&rt, 1);
-    for i in 2..listing_io::argument_count(&rt) {
+    for i in 2..listing_io::arguments(&rt).end {
         list_argument(&rt, i);
     }
 }

@@ -1,13 +1,14 @@
-// What the programs share: how many arguments there are, a table read from a file or from standard input, and lines collected in a page and written.
+// What the programs share: which arguments there are, a table read from a file or from standard input, and lines collected in a page and written.
 // No contract can say what a call of the operating system reads or writes: what is read has a bound, and what a page holds is said.
 #![tactic(auto)]
 
 ghost use Rattle.std.specs.Prelude.{◌≤◌, length, ◌≡◌, [], ◌++◌, IfSome, IfOk};
-ghost use Rattle.listing_io.specs.Pages.{waiting};
+ghost use Rattle.listing_io.specs.Pages.{page_room, waiting};
 
 use lines::{Buffer, LINE_ROOM, Line};
 use std::env::FillError;
 use std::io::{ErrorKind, Read};
+use std::ops::Range;
 use std::rt::Env;
 use std::{fs, io, str};
 
@@ -26,15 +27,17 @@ pub enum NoTable {
     Unread,
 }
 
-// How many arguments there are, the program's name among them.
-// No clause can say more than the type: std's contract of `arg` bounds what it writes, and says nothing of which arguments there are.
-pub fn argument_count(rt: &impl Env) -> usize {
-    for i in 0..usize::MAX {
+// The numbers of the arguments behind the program's name.
+// Of where they end no clause can say more: std's contract of `arg` bounds what it writes, and says nothing of which arguments there are.
+pub fn arguments(rt: &impl Env) -> Range<usize>
+    ensures { (result.start ≡ 1) × (1 ≤ result.end) }
+{
+    for i in 1..usize::MAX {
         if let Err(FillError::NotPresent) = rt.arg(i, &mut []) {
-            return i;
+            return 1..i;
         }
     }
-    usize::MAX
+    1..usize::MAX
 }
 
 // Reads the file that argument i names, or standard input where there are fewer arguments, and answers how many bytes it has.
@@ -156,9 +159,10 @@ impl Page {
         self.lines.put(line.as_bytes());
     }
 
-    // Writes the lines that wait.
-    // No clause: it answers nothing and changes nothing that a clause sees, and of what the system writes no contract says anything.
-    pub fn write(&self, rt: &HostRuntime) {
+    // Writes the lines that wait, which are as many bytes as a page has room for at most. Of what the system writes no contract says anything.
+    pub fn write(&self, rt: &HostRuntime)
+        ensures { length self.now.lines ≤ page_room }
+    {
         write(rt, self.lines.as_bytes());
     }
 }

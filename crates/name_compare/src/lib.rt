@@ -167,7 +167,9 @@ fn put(rows: &mut [u16], at: usize, key: u64, which: Which)
     rows[at + 4] = which.number();
 }
 
-// The step from i records passed on the left and j on the right.
+// The step from i records passed on the left and j on the right. In place in both loops: as a call of its own, each step saves the registers that the comparison of
+// strings needs, and tables of which one alone has keys take 1.3 times as long.
+#[inline(always)]
 fn advance(pair: &Pair<'_, '_>, i: usize, j: usize) -> Step
     requires { Within pair.now.left.bytes.now pair.now.right.bytes.now i j }
     ensures { Stepped pair.now.left.bytes.now pair.now.right.bytes.now i j result }

@@ -5,12 +5,13 @@
 
 ghost use Rattle.std.specs.Prelude.{◌+◌, ◌≤◌, ◌≡◌, ◌++◌, length, take, drop};
 ghost use Rattle.outcomes.specs.Outcomes.{answered};
+ghost use Rattle.lines.specs.Pieces.{Put};
 ghost use Rattle.name_answers.specs.Names.{postscript_of};
 ghost use Rattle.name_answers.specs.Versions.{version_of};
 ghost use Rattle.name_lines.specs.Lines.{key_room, key_parts};
 ghost use Rattle.name_lines.specs.Listings.{head_text, record_text, postscript_text, version_text};
 
-use lines::{Buffer, Line};
+use lines::{Buffer, Line, append};
 use name::Accepted;
 use name_layout::{Key, RecordAt, Table};
 use name_search::Text;
@@ -65,6 +66,29 @@ pub fn put_key<const ROOM: usize>(line: &mut Buffer<ROOM>, key: Key<u64>)
     line.put_numbered(b" ", key.encoding);
     line.put_numbered(b" ", key.language);
     line.put_numbered(b" ", key.name);
+}
+
+// The same in lent bytes: puts the four parts behind the first `at`, and answers where they end.
+pub fn put_key_at(
+    out: &mut [u8],
+    at: usize,
+    platform: u64,
+    encoding: u64,
+    language: u64,
+    name: u64,
+) -> usize
+    requires { at + key_room ≤ length out.old }
+    ensures { Put out.old at out.new result key_room (key_parts platform encoding language name) }
+{
+    let key = Key {
+        platform,
+        encoding,
+        language,
+        name,
+    };
+    let mut parts = Line::new();
+    put_key(&mut parts, key);
+    append(out, at, &parts)
 }
 
 // The line of an accepted table's PostScript name.

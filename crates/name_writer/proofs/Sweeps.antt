@@ -16,7 +16,7 @@ use Rattle.name_store.specs.declared.Entry.{Entry}
 use Rattle.name_store.specs.Entries.{entry_at, offset_for, size_for, Entries}
 use Rattle.name_store.specs.Tables.{table_of}
 use Rattle.name_store.specs.Writing.{is_too_many, has_no_room, entry_fault, unwritten, write_of, room_with, room_after}
-use Rattle.name_writer.specs.Sweeps.{Work, State, work_at, fault_of, checked_with, visited, sweep, started, begun, stage_says, finished, Safe, Ready}
+use Rattle.name_writer.specs.Sweeps.{Work, State, work_at, fault_of, checked_with, visited, sweep, started, begun, stage_says, finished, checked_all, written_all, Safe, Ready}
 use Rattle.name_store.specs.WriteSettled.{SoundBelow}
 use Rattle.name_store.proofs.Bounds.{not_many, too_many, enough, short}
 use Rattle.name_store.proofs.Exactly.{sound_below}
@@ -25,13 +25,6 @@ use Rattle.name_writer.proofs.Turns.{visit_checks, visit_stays, start_many, star
 use Rattle.name_writer.proofs.SweepChecks.{key_before, checked_to, all_sound, Stopped, not_checking, not_writing, stays, one_refused}
 use Rattle.name_store.proofs.Stores.{fronted, bytes_to, all_bytes}
 use Rattle.name_writer.proofs.SweepWrites.{written_to, all_put}
-
--- both sweeps
-abbrev pub checked_all : List Entry → List ℕ → List ℕ → State
-checked_all es pool room = sweep es pool (length es) (room, started (length es))
-
-abbrev pub written_all : List Entry → List ℕ → List ℕ → State
-written_all es pool room = sweep es pool (length es) (begun (checked_all es pool room))
 
 -- ---- while entries are checked
 

@@ -1,5 +1,5 @@
--- A way to write in stages, as one work that is carried from entry to entry: through the entries in turn to check them, and then through them in turn to write
--- them. The code goes so no more; what is shown of it (`kept_word`, `safe_first`, `safe_second`) stands.
+-- How the writer goes, as one work that is carried from entry to entry: through the entries in turn to check them, and then through them in turn to write them.
+-- Its answer and its room are held to it (`write`, by `kept_word`); where the code stops at a refusal, the sweeps go on and do nothing more.
 use Rattle.std.specs.Prelude.{ℕ, zero, suc, ◌+◌, ◌≤◌, ◌<◌, ◌≡◌, cond, ◌&&◌, List, ltb, eqb, length}
 use Rattle.std.proofs.Math.Option.{Option, none, some}
 use Rattle.std.proofs.lemmas.List.Edits.{sets}
@@ -97,6 +97,13 @@ stage_says stage entry =
 unfoldable pub finished : Work → Outcome ℕ
 finished w = unless (stage_says w.stage w.entry) (answered (record_at w.count + w.offset))
 
+-- both sweeps
+abbrev pub checked_all : List Entry → List ℕ → List ℕ → State
+checked_all es pool room = sweep es pool (length es) (room, started (length es))
+
+abbrev pub written_all : List Entry → List ℕ → List ℕ → State
+written_all es pool room = sweep es pool (length es) (begun (checked_all es pool room))
+
 -- ---- what a turn asks
 
 -- what lets entry i be written
@@ -114,3 +121,8 @@ Safe pool room w i e = w.stage ≡ 1 → Puts pool room w i e
 unfoldable pub Ready : List Entry → List ℕ → List ℕ → Work → Type 0
 Ready es pool room w =
     (i : ℕ) → i < length es → Safe (length pool) (length (sweep es pool i (room, w)).0) (sweep es pool i (room, w)).1 i (entry_at es i)
+
+-- and so in both sweeps
+pub record ReadyTwice (es : List Entry) (pool room : List ℕ) : Type 0 where
+  pub first : Ready es pool room (started (length es))
+  pub second : Ready es pool (begun (checked_all es pool room)).0 (begun (checked_all es pool room)).1

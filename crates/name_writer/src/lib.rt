@@ -6,14 +6,20 @@
 ghost use Rattle.std.specs.Prelude.{◌≡◌, length};
 ghost use Rattle.name_store.specs.Writing.{write_of, room_after};
 ghost use Rattle.name_store.specs.Replies.{said_written};
+ghost use Rattle.name_writer.specs.Sweeps.{written_all, finished, ReadyTwice};
 
 pub use name_store::{Entry, WriteRefusal};
 
-// Writes the table of the entries at the start of the room, and answers its length: every entry is checked, then every entry is written.
+// Writes the table of the entries at the start of the room, and answers its length: every entry is checked, then every entry is written. Its answer and the room
+// are also what the two sweeps of `Sweeps` give, each visit of which is safe.
 pub fn write(entries: &[Entry], pool: &[u8], room: &mut [u8]) -> Result<usize, WriteRefusal>
-    ensures { (said_written result ≡ write_of entries.now (length pool.now) (length room.old)) ×
+    ensures answer { (said_written result ≡ write_of entries.now (length pool.now) (length room.old)) ×
         (room.new ≡ room_after entries.now pool.now room.old) }
+    ensures swept { let swept = written_all entries.now pool.now room.old in
+        (room.new ≡ swept.0) × (said_written result ≡ finished swept.1) }
+    ensures safe { ReadyTwice entries.now pool.now room.old }
 {
+    name_store::sixteen(entries);
     let size = name_store::checked_size(entries, pool.len(), room.len())?;
     name_store::store(entries, pool, room);
     Ok(size)

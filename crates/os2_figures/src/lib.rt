@@ -4,12 +4,13 @@
 #![tactic(auto)]
 
 ghost use Rattle.std.specs.Prelude.{◌+◌, ◌≤◌, ◌≡◌, ◌++◌, length};
+ghost use Rattle.lines.specs.Pieces.{Put};
 ghost use Rattle.os2_rules.specs.Rules.{WidthRule};
 ghost use Rattle.os2_style.specs.Style.{rights_number, sizes_of};
 ghost use Rattle.os2_figures.specs.Figures.{signed_text, fraction, figure, rights_text, percent_hundredths, position_text, points_text, sizes_text};
 ghost use Rattle.os2_figures.specs.Figures.{signed_room, fraction_room, figure_room, rights_room, position_room, sizes_room};
 
-use lines::Buffer;
+use lines::{Buffer, Line, append};
 use os2_style::EmbeddingRights;
 
 // Puts a whole number, with a minus sign where it is negative.
@@ -122,4 +123,42 @@ fn put_fraction<const ROOM: usize>(line: &mut Buffer<ROOM>, hundredths: u64)
     if hundredths % 10 != 0 {
         line.put_number(hundredths % 10);
     }
+}
+
+// ---- the same in lent bytes: each puts its text behind the first `at`, and answers where it ends
+
+pub fn put_signed_at(out: &mut [u8], at: usize, x: i64) -> usize
+    requires { at + signed_room ≤ length out.old }
+    ensures { Put out.old at out.new result signed_room (signed_text x) }
+{
+    let mut number = Line::new();
+    put_signed(&mut number, x);
+    append(out, at, &number)
+}
+
+pub fn put_rights_at(out: &mut [u8], at: usize, rights: EmbeddingRights) -> usize
+    requires { at + rights_room ≤ length out.old }
+    ensures { Put out.old at out.new result rights_room (rights_text (rights_number rights)) }
+{
+    let mut piece = Line::new();
+    put_rights(&mut piece, rights);
+    append(out, at, &piece)
+}
+
+pub fn put_position_at(out: &mut [u8], at: usize, weight: u16, width: u16) -> usize
+    requires { (at + position_room ≤ length out.old) × WidthRule width }
+    ensures { Put out.old at out.new result position_room (position_text weight width) }
+{
+    let mut piece = Line::new();
+    put_position(&mut piece, weight, width);
+    append(out, at, &piece)
+}
+
+pub fn put_sizes_at(out: &mut [u8], at: usize, lower: u16, upper: u16) -> usize
+    requires { at + sizes_room ≤ length out.old }
+    ensures { Put out.old at out.new result sizes_room (sizes_text lower upper (sizes_of lower upper)) }
+{
+    let mut piece = Line::new();
+    put_sizes(&mut piece, lower, upper);
+    append(out, at, &piece)
 }

@@ -9,7 +9,7 @@ use os2_lines::LINE_COUNT;
 use outcomes::Told;
 
 fn main(rt: HostRuntime) {
-    let count = listing_io::argument_count(&rt);
+    let count = listing_io::arguments(&rt).end;
     if count < 2 {
         say(&rt, b"os2_listing: no level\n");
     }

@@ -13,11 +13,19 @@ const DIGITS: usize = 7;
 pub fn answer(rt: &impl Print, question: &[u8], line: &[u8]) -> io::Result<()> {
     let digits = line.get(DIGITS..).unwrap_or(b"");
     if digits.starts_with(b"l") {
-        return ask(rt, question, &largest_table());
+        return ask_largest(rt, question);
     }
     let bytes = packed(digits);
     let size = packed_size(digits);
     ask(rt, question, &bytes[..size])
+}
+
+// Writes the answer to a question on the largest table. A call of its own, so that the other questions have no room for that table.
+#[inline(never)]
+fn ask_largest(rt: &impl Print, question: &[u8]) -> io::Result<()> {
+    let mut table = [0; 65536];
+    fill_largest(&mut table);
+    ask(rt, question, &table)
 }
 
 fn ask(rt: &impl Print, question: &[u8], table: &[u8]) -> io::Result<()> {
@@ -87,12 +95,10 @@ fn value(character: u8) -> u8
 }
 
 // The table of 5,460 records, which ends where the storage starts, 65,526, and the ten bytes of storage.
-fn largest_table() -> [u8; 65536] {
-    let mut table = [0; 65536];
+fn fill_largest(table: &mut [u8; 65536]) {
     for (k, word) in table.chunks_exact_mut(2).enumerate() {
         word.copy_from_slice(&largest_word(k).to_be_bytes());
     }
-    table
 }
 
 // Its 16-bit numbers: record i has the key (3, 1, 1033, i) and one byte of storage, number i modulo 10.

@@ -1,12 +1,10 @@
-use Prim.Native.Nat.{ℕ, ◌+◌, ◌-◌}
-use mathlib.Core.Path.{◌≡◌, ◌∙◌, ap}
+-- A long text: first as many bytes as lead to a multiple of a store's size, and then the others.
+use Prim.Native.Nat.{◌-◌, ◌%◌}
 use native.Mathlib.Omega.{arith}
-use lib.ListN.{take, drop, length-take, length-drop}
-use Rattle.copying.proofs.Copies.{put_sets}
+use Rattle.copying.proofs.Copies.{both_copied}
 use Rattle.copying.proofs.copy.Goals as goal
 
 pub returns : goal.returns
-returns c = let args = c.args in
-    let n : args.start + args.n - args.start ≡ args.n = omega arith in
-    put_sets args.room.now args.at args.n (take args.n (drop args.start args.pool.now)) c.requires.0 (simp (length-take, length-drop) (omega arith))
-    (c.copy_from_slice.ensures.after ∙ ap (λ (k : ℕ). take k (drop args.start args.pool.now)) n)
+returns c = let i = 16 - c.args.at % 16 in
+    both_copied c.args.room.now c.args.at c.args.pool.now c.args.start c.args.n i (c.args.n - i) c.requires.1
+    (omega arith) _ _ c.copy_blocks-2.ensures c.copy_turns.ensures

@@ -8,4 +8,4 @@ use Rattle.gyalvindor.proofs.gv_name_write.Goals as goal
 pub returns : goal.returns
 returns c =
     let words = written_said said_refusal _ c.written_words.ensures.written c.written_words.ensures.refused in
-    (words ∙ ap written_words c.write.ensures.0, c.write.ensures.1)
+    (words ∙ ap written_words c.write.ensures.answer.0, c.write.ensures.answer.1)
